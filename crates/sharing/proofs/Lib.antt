@@ -1,0 +1,4 @@
+pub mod Finite
+pub mod Binomials
+pub mod Schemes
+pub mod Order

@@ -1,0 +1,6 @@
+pub mod Choose
+pub mod Masks
+pub mod Groups
+pub mod Split
+pub mod Refusals
+pub mod Answers

@@ -1,0 +1,9 @@
+//! Sharing a key among units.
+
+mod pascal;
+mod refusal;
+
+pub use pascal::binomial;
+pub use refusal::Refusal;
+mod scheme;
+pub use scheme::Scheme;
