@@ -4,3 +4,4 @@ pub mod Groups
 pub mod Split
 pub mod Refusals
 pub mod Answers
+pub mod Laws

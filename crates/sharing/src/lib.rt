@@ -1,5 +1,6 @@
 //! Sharing a key among units.
 
+mod group;
 mod pascal;
 mod refusal;
 

@@ -3,8 +3,13 @@ ghost use mathlib.Core.Bool.{true};
 ghost use Prim.Native.Nat.{ℕ};
 ghost use lib.ListN.{length, getD};
 ghost use Rattle.std.specs.Results.{mapped};
-ghost use Rattle.sharing.specs.Masks.{lawful, shares, maskOf};
-ghost use Rattle.sharing.specs.Answers.{schemeAnswer};
+ghost use Rattle.sharing.specs.Masks.{lawful, isShareMask, shares, maskOf, rankSum};
+ghost use Rattle.sharing.specs.Groups.{unitHas};
+ghost use Rattle.sharing.specs.Answers.{schemeAnswer, maskAnswer, rankAnswer, shareAt, fallsAnswer, equalAnswer};
+ghost use Rattle.sharing.specs.Laws.{SharesCounted, RanksAndMasks, RankIsSum, FallsToOne, EnoughHaveAll, FewLackOne, EqualShares};
+use crate::group::first_common;
+use crate::group::is_member;
+use crate::group::is_within;
 use crate::pascal::choose_of;
 use crate::refusal::Refusal;
 
@@ -13,8 +18,9 @@ use crate::refusal::Refusal;
 pub struct Scheme {
     n: u8,
     t: u8,
+    // the share masks by rank, and zeros after them
     masks: [u8; 70],
-    ghost lawful_parameters: { lawful n t ≡ true },
+    ghost allowed: { lawful n t ≡ true },
     ghost room: { length masks ≡ 70 },
     ghost ordered: { (rank : ℕ) → getD masks rank 0 ≡ maskOf n t rank },
 }
@@ -33,9 +39,84 @@ impl Scheme {
 
     /// The number of shares of a dealing.
     pub fn shares(&self) -> u8
-        ensures { λ r. ⌜ r ≡ shares (now (self .entry) .n) (now (self .entry) .t) ⌝ }
+        ensures value { λ r. ⌜ r ≡ shares (now (self .entry) .n) (now (self .entry) .t) ⌝ }
+        ensures counted { λ _. ⌜ SharesCounted ⌝ }
     {
         choose_of(self.n, self.t - 1)
+    }
+
+    /// The mask of the places that have the share of `rank`.
+    pub fn mask_of(&self, rank: u8) -> Result<u8, Refusal>
+        ensures value { λ r. ⌜ r ≡ maskAnswer (now (self .entry) .n) (now (self .entry) .t) rank ⌝ }
+        ensures inverse { λ _. ⌜ RanksAndMasks ⌝ }
+    {
+        if rank >= self.shares() {
+            return Err(Refusal::Rank);
+        }
+        Ok(self.mask_or_none(rank))
+    }
+
+    /// The rank of a share mask.
+    pub fn rank_of(&self, mask: u8) -> Result<u8, Refusal>
+        ensures value { λ r. ⌜ r ≡ rankAnswer (now (self .entry) .n) (now (self .entry) .t) mask ⌝ }
+        ensures sum { λ _. ⌜ RankIsSum ⌝ }
+    {
+        let size = u32::from(self.n - self.t + 1);
+        if !is_within(mask, self.n) || mask.count_ones() != size {
+            return Err(Refusal::Mask);
+        }
+        Ok(binomial_sum(self.n, self.t, mask))
+    }
+
+    /// Whether the unit at `place` has the share of `rank`.
+    pub fn has_rank(&self, place: u8, rank: u8) -> bool
+        ensures { λ r. ⌜ r ≡ unitHas (now (self .entry) .n) (now (self .entry) .t) place rank ⌝ }
+    {
+        is_member(place, self.mask_or_none(rank))
+    }
+
+    /// Where the 16 bytes of the unit's share of `rank` begin in a dealing, which has the shares by rising rank.
+    pub fn share_at(&self, place: u8, rank: u8) -> Option<usize>
+        ensures { λ r. ⌜ r ≡ shareAt (now (self .entry) .n) (now (self .entry) .t) place rank ⌝ }
+    {
+        if self.has_rank(place, rank) {
+            Some(16 * rank as usize)
+        } else {
+            None
+        }
+    }
+
+    /// The place that works out `rank` for a quorum.
+    pub fn falls_to(&self, quorum: u8, rank: u8) -> Result<u8, Refusal>
+        ensures value { λ r. ⌜ r ≡ fallsAnswer (now (self .entry) .n) (now (self .entry) .t) quorum rank ⌝ }
+        ensures once { λ _. ⌜ FallsToOne ⌝ }
+        ensures enough { λ _. ⌜ EnoughHaveAll ⌝ }
+        ensures few { λ _. ⌜ FewLackOne ⌝ }
+    {
+        if !is_within(quorum, self.n) || quorum.count_ones() != u32::from(self.t) {
+            return Err(Refusal::Quorum);
+        }
+        let mask = self.mask_of(rank)?;
+        Ok(first_common(self.n, quorum, mask))
+    }
+
+    /// Whether the units of two groups have the same shares between them.
+    pub fn hold_equal_shares(&self, a: u8, b: u8) -> Result<bool, Refusal>
+        ensures value { λ r. ⌜ r ≡ equalAnswer (now (self .entry) .n) (now (self .entry) .t) a b ⌝ }
+        ensures law { λ _. ⌜ EqualShares ⌝ }
+    {
+        if !is_within(a, self.n) || !is_within(b, self.n) {
+            return Err(Refusal::Group);
+        }
+        let t = u32::from(self.t);
+        Ok(a == b || (a.count_ones() >= t && b.count_ones() >= t))
+    }
+
+    // The mask of a rank, or the empty mask where there is no such rank.
+    fn mask_or_none(&self, rank: u8) -> u8
+        ensures { λ r. ⌜ r ≡ maskOf (now (self .entry) .n) (now (self .entry) .t) rank ⌝ }
+    {
+        self.masks.get(rank as usize).copied().unwrap_or(0)
     }
 }
 
@@ -55,4 +136,20 @@ fn share_masks(n: u8, t: u8) -> [u8; 70]
         }
     }
     masks
+}
+
+// C(p1, 1) + C(p2, 2) + .. over the ones of a share mask, at the bits p1 < p2 < ..
+fn binomial_sum(n: u8, t: u8, mask: u8) -> u8
+    requires { ⌜ lawful n t ≡ true ⌝ ∗ ⌜ isShareMask n t mask ≡ true ⌝ }
+    ensures { λ r. ⌜ r ≡ rankSum mask ⌝ }
+{
+    let mut sum = 0;
+    let mut ones = 0;
+    for bit in 0..8 {
+        if is_member(bit + 1, mask) {
+            ones += 1;
+            sum += choose_of(bit, ones);
+        }
+    }
+    sum
 }
