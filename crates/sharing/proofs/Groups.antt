@@ -1,27 +1,24 @@
 -- Which groups have which ranks. One computed test for each fact over all groups, and the law of equal shares from them. Assumes nothing.
-use mathlib.Core.Path.{_≡_, refl, sym, ap, ap₂, _∙_}
+use mathlib.Core.Path.{_≡_, refl, sym, ap, _∙_}
 use mathlib.Core.Logic.{_⊎_, inl, inr, ⊎-elim}
-use mathlib.Core.Bool.{Bool, true, false, cond, not, _&&_, _||_}
+use mathlib.Core.Bool.{Bool, true, false, not, _&&_, _||_}
 use mathlib.Core.List.{List}
-use Prim.Native.Nat.{ℕ, zero, suc, _+_, _-_, _^_, _≤_, _<_}
+use Prim.Native.Nat.{ℕ, _+_, _^_, _≤_, _<_}
 use native.Mathlib.Omega.{arith}
 use lib.Count.{ones, onesIn}
 use lib.Dec.{eqb, leb, ltb}
-use lib.ListN.{length, getD}
-use Rattle.std.specs.Iters.{counting}
+use lib.ListN.{length}
 use Rattle.std.specs.Lexical.{bytes-decides}
 use Rattle.std.specs.Orderings.{Decides}
-use Rattle.std.specs.shelf.Lists.{sumBy}
 use Rattle.std.specs.shelf.Maps.{same-text as sameList}
 use Rattle.std.specs.declared.result.Result.the-variants.{Ok}
-use Rattle.std.proofs.shelf.Sums.{sumBy-cons}
-use Rattle.std.proofs.shelf.Tests.{false≢true, true≢false, not-true, cases-bool, cases-lt, and-parts, and-from, or-cases, eqb-true, le-leb, lt-ltb}
+use Rattle.std.proofs.shelf.Tests.{false≢true, not-true, cases-lt, and-parts, and-from, or-cases, eqb-true, le-leb, lt-ltb}
 use Rattle.std.proofs.shelf.Ways.{same-from-decides, decides-like}
 use Rattle.sharing.specs.Answers.{equalAnswer}
 use Rattle.sharing.specs.Choose.{choose}
-use Rattle.sharing.specs.Masks.{lawful, member, shareMasks, shares, maskOf}
-use Rattle.sharing.specs.Groups.{someOf, places, ranks, groupHas, groupRanks}
-use Rattle.sharing.specs.Laws.{EnoughHaveAll, FewLackOne, EqualShares}
+use Rattle.sharing.specs.Masks.{lawful, groupOf, member, shareMasks, shares, maskOf}
+use Rattle.sharing.specs.Groups.{someOf, places, members, ranks, groupHas, groupRanks}
+use Rattle.sharing.specs.Laws.{GroupOfMembers, EnoughHaveAll, FewLackOne, EqualShares}
 use Rattle.sharing.proofs.Finite.{allBelow, below-at, allIn, in-at, in-range, some-at, some-in, implies, implied, kept-same, kept-all, kept-tells}
 use Rattle.sharing.proofs.Order.{length-masks}
 use Rattle.sharing.proofs.Schemes.{n-high, everyScheme, scheme-at}
@@ -96,27 +93,17 @@ has-only-own n t a b p h low few same first last is =
         absurd (false≢true (sym (not-true (groupHas n t a rank) (parts .1)) ∙ same rank inside ∙ has)))
     (or-cases (member p a) _ tests)
 
--- a group is the sum of what its places add
-total : ℕ → ℕ → ℕ
-total n group = sumBy (λ p. cond (member p group) (2 ^ (p - 1)) 0) (places n)
+groups-pass : allBelow (λ n. allBelow (λ group. eqb (groupOf (members n group)) group) (2 ^ n)) 9 ≡ true
+unfolding allBelow
+groups-pass = refl
 
-totals-pass : allBelow (λ n. allBelow (λ group. eqb (total n group) group) (2 ^ n)) 9 ≡ true
-unfolding total allBelow
-totals-pass = refl
-
-sum-same : (f g : ℕ → ℕ) (a n : ℕ) → ((k : ℕ) → a ≤ k → k < a + n → f k ≡ g k) → sumBy f (counting a n) ≡ sumBy g (counting a n)
-sum-same f g a zero e = refl
-sum-same f g a (suc n) e =
-    let here = e a (omega arith) (omega arith) in
-    let rest = sum-same f g (a + 1) n (λ k low high. e k (omega arith) (omega arith)) in
-    sumBy-cons f a (counting (a + 1) n) ∙ ap₂ (λ x y. x + y) here rest ∙ sym (sumBy-cons g a (counting (a + 1) n))
+pub group-of-members : GroupOfMembers
+group-of-members n group few low =
+    eqb-true _ _ (below-at (λ g. eqb (groupOf (members n g)) g) (2 ^ n) group (below-at (λ m. allBelow (λ g. eqb (groupOf (members m g)) g) (2 ^ m)) 9 n groups-pass (omega arith)) low)
 
 same-group : (n a b : ℕ) → n ≤ 8 → a < 2 ^ n → b < 2 ^ n → ((p : ℕ) → 1 ≤ p → p < 1 + n → member p a ≡ member p b) → a ≡ b
-unfolding total
 same-group n a b few low-a low-b same =
-    let all = below-at (λ m. allBelow (λ group. eqb (total m group) group) (2 ^ m)) 9 n totals-pass (omega arith) in
-    let is = λ (group : ℕ) (low : group < 2 ^ n). eqb-true (total n group) group (below-at (λ g. eqb (total n g) g) (2 ^ n) group all low) in
-    sym (is a low-a) ∙ sum-same _ _ 1 n (λ p first last. ap (λ m. cond m (2 ^ (p - 1)) 0) (same p first last)) ∙ is b low-b
+    sym (group-of-members n a few low-a) ∙ ap groupOf (kept-same (λ p. member p a) (λ p. member p b) 1 n same) ∙ group-of-members n b few low-b
 
 same-test : (x y : Bool) → (x ≡ true → y ≡ true) → (y ≡ true → x ≡ true) → x ≡ y
 same-test true y f g = sym (f refl)

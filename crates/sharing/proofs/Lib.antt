@@ -6,3 +6,4 @@ pub mod Ranks
 pub mod Groups
 pub mod Members
 pub mod Split
+pub mod Worked

@@ -27,6 +27,10 @@ ranks n t = counting 0 (shares n t)
 abbrev pub groupHas : ℕ → ℕ → ℕ → ℕ → Bool
 groupHas n t group rank = someOf (λ p. member p group && unitHas n t p rank) (places n)
 
+-- the places of a group within n
+abbrev pub members : ℕ → ℕ → List ℕ
+members n group = kept-by (λ p. member p group) (places n)
+
 -- the ranks that a unit has, and those that a group's units have between them
 abbrev pub unitRanks : ℕ → ℕ → ℕ → List ℕ
 unitRanks n t p = kept-by (unitHas n t p) (ranks n t)

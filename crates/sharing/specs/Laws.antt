@@ -5,9 +5,13 @@ use mathlib.Core.Bool.{true, false}
 use Prim.Native.Nat.{ℕ, _^_, _≤_, _<_}
 use lib.Count.{ones}
 use lib.ListN.{length}
-use Rattle.sharing.specs.Masks.{lawful, member, isShareMask, shareMasks, shares, maskOf, rankOf, rankSum}
-use Rattle.sharing.specs.Groups.{unitHas, groupHas, ranks, groupRanks}
+use Rattle.sharing.specs.Masks.{lawful, groupOf, member, isShareMask, shareMasks, shares, maskOf, rankOf, rankSum}
+use Rattle.sharing.specs.Groups.{members, unitHas, groupHas, ranks, groupRanks}
 use Rattle.sharing.specs.Split.{isQuorum, fallsTo}
+
+-- a group within n is the mask of its members
+abbrev pub GroupOfMembers : Type 0
+GroupOfMembers = (n group : ℕ) → n ≤ 8 → group < 2 ^ n → groupOf (members n group) ≡ group
 
 -- there are C(n, t - 1) share masks
 abbrev pub SharesCounted : Type 0

@@ -5,3 +5,4 @@ pub mod Split
 pub mod Refusals
 pub mod Answers
 pub mod Laws
+pub mod Examples

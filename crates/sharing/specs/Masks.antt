@@ -1,20 +1,24 @@
 -- Which numbers of units and thresholds there are, the share masks and their ranks. Assumes nothing.
 use mathlib.Core.Bool.{Bool, cond, _&&_, not}
 use mathlib.Core.List.{List, [], _∷_}
-use Prim.Native.Nat.{ℕ, suc, _+_, _-_, _/_, _%_, _^_}
+use Prim.Native.Nat.{ℕ, suc, _+_, _-_, _^_}
 use lib.Bits.{bitAnd}
 use lib.Count.{ones}
 use lib.Dec.{eqb, leb, ltb}
 use lib.ListN.{getD}
 use Rattle.std.specs.Iters.{counting}
-use Rattle.std.specs.shelf.Lists.{kept-by}
+use Rattle.std.specs.shelf.Lists.{kept-by, sumBy}
 use Rattle.sharing.specs.Choose.{choose}
 
 -- n units with threshold t can be dealt to
 abbrev pub lawful : ℕ → ℕ → Bool
 lawful n t = leb 2 t && (leb t n && leb n 8)
 
--- place p, counted from 1, adds 2 ^ (p - 1) to the mask of a group
+-- a group is a mask to which place p, counted from 1, adds 2 ^ (p - 1)
+abbrev pub groupOf : List ℕ → ℕ
+groupOf ps = sumBy (λ p. 2 ^ (p - 1)) ps
+
+-- place p is in the group
 abbrev pub member : ℕ → ℕ → Bool
 member p group = leb 1 p && not (eqb (bitAnd group (2 ^ (p - 1))) 0)
 

@@ -4,8 +4,9 @@ use mathlib.Core.List.{List, [], _∷_}
 use Prim.Native.Nat.{ℕ, _^_}
 use lib.Count.{ones}
 use lib.Dec.{eqb, ltb}
+use Rattle.std.specs.shelf.Lists.{kept-by}
 use Rattle.sharing.specs.Masks.{member}
-use Rattle.sharing.specs.Groups.{unitHas, places}
+use Rattle.sharing.specs.Groups.{unitHas, places, ranks}
 
 -- exactly t places within n
 abbrev pub isQuorum : ℕ → ℕ → ℕ → Bool
@@ -19,3 +20,7 @@ firstOf f (x ∷ xs) = cond (f x) x (firstOf f xs)
 -- the smallest place that is both in the quorum and in the rank's mask
 abbrev pub fallsTo : ℕ → ℕ → ℕ → ℕ → ℕ
 fallsTo n t q rank = firstOf (λ p. member p q && unitHas n t p rank) (places n)
+
+-- the ranks that fall to place p
+abbrev pub fallingTo : ℕ → ℕ → ℕ → ℕ → List ℕ
+fallingTo n t q p = kept-by (λ rank. eqb (fallsTo n t q rank) p) (ranks n t)

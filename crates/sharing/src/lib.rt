@@ -1,10 +1,12 @@
-//! Sharing a key among units.
+//! Sharing a key among units: each share goes to the units of one mask, and any `t` of `n` units have every share.
 
+mod examples;
 mod group;
 mod pascal;
 mod refusal;
+mod scheme;
 
+pub use examples::examples_stand;
 pub use pascal::binomial;
 pub use refusal::Refusal;
-mod scheme;
 pub use scheme::Scheme;

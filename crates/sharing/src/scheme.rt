@@ -6,7 +6,7 @@ ghost use Rattle.std.specs.Results.{mapped};
 ghost use Rattle.sharing.specs.Masks.{lawful, isShareMask, shares, maskOf, rankSum};
 ghost use Rattle.sharing.specs.Groups.{unitHas};
 ghost use Rattle.sharing.specs.Answers.{schemeAnswer, maskAnswer, rankAnswer, shareAt, fallsAnswer, equalAnswer};
-ghost use Rattle.sharing.specs.Laws.{SharesCounted, RanksAndMasks, RankIsSum, FallsToOne, EnoughHaveAll, FewLackOne, EqualShares};
+ghost use Rattle.sharing.specs.Laws.{GroupOfMembers, SharesCounted, RanksAndMasks, RankIsSum, FallsToOne, EnoughHaveAll, FewLackOne, EqualShares};
 use crate::group::first_common;
 use crate::group::is_member;
 use crate::group::is_within;
@@ -104,6 +104,7 @@ impl Scheme {
     pub fn hold_equal_shares(&self, a: u8, b: u8) -> Result<bool, Refusal>
         ensures value { λ r. ⌜ r ≡ equalAnswer (now (self .entry) .n) (now (self .entry) .t) a b ⌝ }
         ensures law { λ _. ⌜ EqualShares ⌝ }
+        ensures groups { λ _. ⌜ GroupOfMembers ⌝ }
     {
         if !is_within(a, self.n) || !is_within(b, self.n) {
             return Err(Refusal::Group);

@@ -5,12 +5,12 @@ use native.Mathlib.Omega.{arith}
 use borrow.Author.Needs.{needs}
 use lib.Count.{ones}
 use Rattle.std.proofs.shelf.Tests.{eq-eqb, le-leb, leb-true, ltb-true}
-use Rattle.sharing.proofs.Groups.{equal-shares, equal-from}
+use Rattle.sharing.proofs.Groups.{group-of-members, equal-shares, equal-from}
 use Rattle.sharing.proofs.scheme.Scheme.hold_equal_shares.Needs as need
 use Rattle.sharing.proofs.scheme.Scheme.hold_equal_shares.Needs.{After-from-t}
 
 pub returns-then-not-is-within : need.returns-then-not-is-within
-returns-then-not-is-within c = record { value = search needs; law = equal-shares }
+returns-then-not-is-within c = record { value = search needs; law = equal-shares; groups = group-of-members }
 
 -- both groups are within n
 low-a : (c : After-from-t) → c .args .a < 2 ^ (c .args .self .now .n)
@@ -26,6 +26,7 @@ returns-then-a-b c =
     record {
       value = equal-from _ _ _ _ (c .args .self .now .allowed) (low-a at) (low-b at) _ (λ _. inl same, λ _. eq-eqb _ _ same);
       law = equal-shares;
+      groups = group-of-members;
     }
 
 pub returns-then-a-t : need.returns-then-a-t
@@ -36,6 +37,7 @@ returns-then-a-t c =
       value = equal-from _ _ _ _ (c .args .self .now .allowed) (low-a at) (low-b at) _
         (λ e. inr (omega arith, omega (arith, leb-true _ _ e)), ⊎-elim (λ same. absurd (c .if-a-b .left same)) (λ both. le-leb _ _ (omega arith)));
       law = equal-shares;
+      groups = group-of-members;
     }
 
 pub returns-else-a-t : need.returns-else-a-t
@@ -46,4 +48,5 @@ returns-else-a-t c =
       value = equal-from _ _ _ _ (c .args .self .now .allowed) (low-a at) (low-b at) _
         (λ e. absurd (omega (arith, leb-true _ _ e)), ⊎-elim (λ same. absurd (c .if-a-b .left same)) (λ both. absurd (omega arith)));
       law = equal-shares;
+      groups = group-of-members;
     }
