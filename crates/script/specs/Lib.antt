@@ -1,0 +1,5 @@
+pub mod Lines
+pub mod Commands
+pub mod Answers
+pub mod Output
+pub mod Laws
