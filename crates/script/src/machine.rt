@@ -38,7 +38,12 @@ pub fn run(heap: Global, script: &[u8]) -> Result<Vec<u8>, AllocError>
     Ok(output)
 }
 
-fn push_answer(output: &mut Vec<u8>, heap: Global, number: usize, answer: Answer) -> Result<(), AllocError>
+fn push_answer(
+    output: &mut Vec<u8>,
+    heap: Global,
+    number: usize,
+    answer: Answer,
+) -> Result<(), AllocError>
     ensures { λ r. ⌜ made r (λ _. vec-items (now (output .exit)) ≡ vec-items (now (output .entry)) ++ answerLine number answer) ⌝ }
 {
     let line = answer.line(heap, number)?;

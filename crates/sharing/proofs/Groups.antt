@@ -10,14 +10,11 @@ use lib.Dec.{eqb, leb, ltb}
 use lib.ListN.{length}
 use Rattle.std.specs.Lexical.{bytes-decides}
 use Rattle.std.specs.Orderings.{Decides}
-use Rattle.std.specs.shelf.Maps.{same-text as sameList}
-use Rattle.std.specs.declared.result.Result.the-variants.{Ok}
-use Rattle.std.proofs.shelf.Tests.{false≢true, not-true, cases-lt, and-parts, and-from, or-cases, eqb-true, le-leb, lt-ltb}
+use Rattle.std.proofs.shelf.Tests.{false≢true, not-true, cases-lt, and-parts, and-from, or-cases, eqb-true, ltb-true, le-leb, lt-ltb}
 use Rattle.std.proofs.shelf.Ways.{same-from-decides, decides-like}
-use Rattle.sharing.specs.Answers.{equalAnswer}
 use Rattle.sharing.specs.Choose.{choose}
 use Rattle.sharing.specs.Masks.{lawful, groupOf, member, shareMasks, shares, maskOf}
-use Rattle.sharing.specs.Groups.{someOf, places, members, ranks, groupHas, groupRanks}
+use Rattle.sharing.specs.Groups.{someOf, places, members, ranks, groupHas, groupRanks, equalShares}
 use Rattle.sharing.specs.Laws.{GroupOfMembers, EnoughHaveAll, FewLackOne, EqualShares}
 use Rattle.sharing.proofs.Finite.{allBelow, below-at, allIn, in-at, in-range, some-at, some-in, implies, implied, kept-same, kept-all, kept-tells}
 use Rattle.sharing.proofs.Order.{length-masks}
@@ -52,6 +49,7 @@ enough-has n t group rank h low enough is =
     in-at (meets n group) (shareMasks n t) rank (implied (leb t (ones group)) _ (group-at hasAll all-passes n t group h low) (le-leb t (ones group) enough)) (below-length n t rank h is)
 
 pub enough-have-all : EnoughHaveAll
+unfolding EnoughHaveAll
 enough-have-all n t group h low enough =
     kept-same (groupHas n t group) (λ _. true) 0 (shares n t) (λ rank _ high. enough-has n t group rank h low enough (omega arith)) ∙ kept-all 0 (shares n t)
 
@@ -63,7 +61,7 @@ unfolding eachGroup lacksOne everyScheme allBelow someOf choose shareMasks ones 
 one-passes = refl
 
 pub few-lack-one : FewLackOne
-unfolding lacksOne
+unfolding FewLackOne lacksOne
 few-lack-one n t group h low few =
     let at = some-at (λ mask. not (meets n group mask)) (shareMasks n t) (implied (ltb (ones group) t) _ (group-at lacksOne one-passes n t group h low) (lt-ltb (ones group) t few)) in
     (at .0, omega (arith, at .1, length-masks n t h), not-true (groupHas n t group (at .0)) (at .2))
@@ -85,12 +83,12 @@ has-only-own n t a b p h low few same first last is =
     let tests = in-range (λ q. member q a || someOf (λ mask. member q mask && not (meets n a mask)) (shareMasks n t)) 1 n p (implied (ltb (ones a) t) _ (group-at lacksOther other-passes n t a h low) (lt-ltb (ones a) t few)) first last in
     ⊎-elim (λ own. own)
     (λ some.
-        let at = some-at test (shareMasks n t) some in
-        let rank = at .0 in
-        let inside : rank < shares n t = omega (arith, at .1, length-masks n t h) in
-        let parts = and-parts (member p (maskOf n t rank)) (not (meets n a (maskOf n t rank))) (at .2) in
-        let has : groupHas n t b rank ≡ true = some-in (λ q. member q b && member q (maskOf n t rank)) 1 n p first last (and-from (member p b) (member p (maskOf n t rank)) is (parts .0)) in
-        absurd (false≢true (sym (not-true (groupHas n t a rank) (parts .1)) ∙ same rank inside ∙ has)))
+    let at = some-at test (shareMasks n t) some in
+    let rank = at .0 in
+    let inside : rank < shares n t = omega (arith, at .1, length-masks n t h) in
+    let parts = and-parts (member p (maskOf n t rank)) (not (meets n a (maskOf n t rank))) (at .2) in
+    let has : groupHas n t b rank ≡ true = some-in (λ q. member q b && member q (maskOf n t rank)) 1 n p first last (and-from (member p b) (member p (maskOf n t rank)) is (parts .0)) in
+    absurd (false≢true (sym (not-true (groupHas n t a rank) (parts .1)) ∙ same rank inside ∙ has)))
     (or-cases (member p a) _ tests)
 
 groups-pass : allBelow (λ n. allBelow (λ group. eqb (groupOf (members n group)) group) (2 ^ n)) 9 ≡ true
@@ -98,10 +96,12 @@ unfolding allBelow
 groups-pass = refl
 
 pub group-of-members : GroupOfMembers
+unfolding GroupOfMembers
 group-of-members n group few low =
     eqb-true _ _ (below-at (λ g. eqb (groupOf (members n g)) g) (2 ^ n) group (below-at (λ m. allBelow (λ g. eqb (groupOf (members m g)) g) (2 ^ m)) 9 n groups-pass (omega arith)) low)
 
 same-group : (n a b : ℕ) → n ≤ 8 → a < 2 ^ n → b < 2 ^ n → ((p : ℕ) → 1 ≤ p → p < 1 + n → member p a ≡ member p b) → a ≡ b
+unfolding GroupOfMembers
 same-group n a b few low-a low-b same =
     sym (group-of-members n a few low-a) ∙ ap groupOf (kept-same (λ p. member p a) (λ p. member p b) 1 n same) ∙ group-of-members n b few low-b
 
@@ -111,6 +111,7 @@ same-test false true f g = absurd (false≢true (g refl))
 same-test false false f g = refl
 
 pub equal-shares : EqualShares
+unfolding EqualShares EnoughHaveAll FewLackOne
 equal-shares n t a b h low-a low-b = (forth, back)
   where
     at-rank : groupRanks n t a ≡ groupRanks n t b → (rank : ℕ) → rank < shares n t → groupHas n t a rank ≡ groupHas n t b rank
@@ -138,9 +139,9 @@ equal-shares n t a b h low-a low-b = (forth, back)
     back = ⊎-elim (ap (groupRanks n t)) (λ both. enough-have-all n t a h low-a (both .0) ∙ sym (enough-have-all n t b h low-b (both .1)))
 
 -- whoever decides the law's right side answers whether two groups hold equal shares
-pub equal-from : (n t a b : ℕ) → lawful n t ≡ true → a < 2 ^ n → b < 2 ^ n → (r : Bool) → Decides r ((a ≡ b) ⊎ ((t ≤ ones a) × (t ≤ ones b))) → Ok r ≡ equalAnswer n t a b
-equal-from n t a b h low-a low-b r decides =
-    let law = equal-shares n t a b h low-a low-b in
-    let same = same-from-decides r (sameList (groupRanks n t a) (groupRanks n t b)) (decides-like r (law .1) (law .0) decides) (bytes-decides (groupRanks n t a) (groupRanks n t b)) in
-    let within = and-from (ltb a (2 ^ n)) (ltb b (2 ^ n)) (lt-ltb a (2 ^ n) low-a) (lt-ltb b (2 ^ n) low-b) in
-    rw within (ap Ok same)
+pub equal-from : (n t a b : ℕ) → lawful n t ≡ true → (ltb a (2 ^ n) && ltb b (2 ^ n)) ≡ true → (r : Bool) → Decides r ((a ≡ b) ⊎ ((t ≤ ones a) × (t ≤ ones b))) → r ≡ equalShares n t a b
+unfolding EqualShares
+equal-from n t a b h within r decides =
+    let lows = and-parts (ltb a (2 ^ n)) (ltb b (2 ^ n)) within in
+    let law = equal-shares n t a b h (ltb-true a (2 ^ n) (lows .0)) (ltb-true b (2 ^ n) (lows .1)) in
+    same-from-decides r (equalShares n t a b) (decides-like r (law .1) (law .0) decides) (bytes-decides (groupRanks n t a) (groupRanks n t b))

@@ -16,7 +16,7 @@ pub past-group : (n p group : ℕ) → group < 2 ^ n → n < p → member p grou
 past-group n p group low past =
     let high : n ≤ p - 1 = omega arith in
     let none : bitAnd group (2 ^ (p - 1)) ≡ 0 =
-      and-comm group (2 ^ (p - 1)) ∙ ap (λ x. bitAnd x group) (sym (one-mul (2 ^ (p - 1)))) ∙ and-shifted 1 (p - 1) group (omega (arith, pow-mono {i = n} {j = p - 1} high)) in
+    and-comm group (2 ^ (p - 1)) ∙ ap (λ x. bitAnd x group) (sym (one-mul (2 ^ (p - 1)))) ∙ and-shifted 1 (p - 1) group (omega (arith, pow-mono {i = n} {j = p - 1} high)) in
     and-right (leb 1 p) _ (not-from-true _ (eq-eqb _ 0 none))
 
 pub member-range : (n p group : ℕ) → group < 2 ^ n → member p group ≡ true → (1 ≤ p) × (p < 1 + n)

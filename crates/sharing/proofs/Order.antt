@@ -20,6 +20,7 @@ use Rattle.std.proofs.shelf.Lists.{length-push, getD-push, getD-past}
 use Rattle.std.proofs.shelf.Elements.{kept-by-append}
 use Rattle.sharing.specs.Choose.{choose}
 use Rattle.sharing.specs.Masks.{lawful, isShareMask, shareMasks, shares, maskOf}
+use Rattle.sharing.specs.Laws.{SharesCounted}
 use Rattle.sharing.proofs.Finite.{allBelow}
 use Rattle.sharing.proofs.Schemes.{n-high, everyScheme, scheme-at}
 
@@ -38,6 +39,10 @@ length-masks n t h = eqb-true _ _ (and-parts _ _ (counted n t h) .0)
 pub shares-few : (n t : ℕ) → lawful n t ≡ true → shares n t ≤ 70
 unfolding counts
 shares-few n t h = leb-true _ _ (and-parts _ _ (counted n t h) .1)
+
+pub shares-counted : SharesCounted
+unfolding SharesCounted
+shares-counted = length-masks
 
 pub counting-more : (a n : ℕ) → counting a (n + 1) ≡ counting a n ++ (a + n) ∷ []
 counting-more a zero = rw (add-zero a) refl
@@ -104,9 +109,8 @@ module _ (n t mask count : ℕ) (masks : List ℕ) (old : Sofar n t masks count 
   pub sofar-yes : (v : ℕ) → v ≡ mask → count < 70 → isShareMask n t mask ≡ true → Sofar n t (set masks count v) (count + 1) (mask + 1)
   sofar-yes v e room is =
       let more : keptBelow (isShareMask n t) (mask + 1) ≡ keptBelow (isShareMask n t) mask ++ mask ∷ [] =
-        kept-more (isShareMask n t) mask ∙ rw is refl in
-      let long : count < length masks = omega (arith, old .0) in
-      (
+      kept-more (isShareMask n t) mask ∙ rw is refl in
+      let long : count < length masks = omega (arith, old .0) in (
         length-set masks count v ∙ old .0,
         omega (arith, ap length more ∙ length-push (keptBelow (isShareMask n t) mask) mask, old .1),
         rw (more, e) (filled-more masks (keptBelow (isShareMask n t) mask) mask count (old .1) long (old .2)),
@@ -115,7 +119,7 @@ module _ (n t mask count : ℕ) (masks : List ℕ) (old : Sofar n t masks count 
   pub sofar-no : isShareMask n t mask ≡ false → Sofar n t masks count (mask + 1)
   sofar-no is =
       let more : keptBelow (isShareMask n t) (mask + 1) ≡ keptBelow (isShareMask n t) mask =
-        kept-more (isShareMask n t) mask ∙ rw is (append-nil (keptBelow (isShareMask n t) mask)) in
+      kept-more (isShareMask n t) mask ∙ rw is (append-nil (keptBelow (isShareMask n t) mask)) in
       rw more old
 
 -- what the loop's tests say of a mask

@@ -1,5 +1,5 @@
 -- Ranks and masks belong to each other, and the rank is the sum of binomials: one computed test of each. Assumes nothing.
-use mathlib.Core.Path.{_≡_, refl, ap, _∙_}
+use mathlib.Core.Path.{_≡_, refl, sym, ap, _∙_}
 use mathlib.Core.Bool.{Bool, true, false, _&&_}
 use mathlib.Core.List.{List}
 use Prim.Native.Nat.{ℕ, _+_, _-_, _^_, _≤_, _<_}
@@ -35,7 +35,7 @@ mask-passes n t mask h is =
     implied _ _ (below-at (λ m. implies (isShareMask n t m) (ofMask n t (shareMasks n t) m)) (2 ^ n) mask (masks-pass n t h) low) is
 
 pub rank-is-sum : RankIsSum
-unfolding ofMask
+unfolding RankIsSum ofMask
 rank-is-sum n t mask h is = eqb-true _ _ (and-parts (eqb (rankOf n t mask) (rankSum mask)) _ (mask-passes n t mask h is) .0)
 
 -- of a rank
@@ -47,7 +47,7 @@ unfolding ofRank everyScheme allBelow choose shareMasks position ones onesIn
 ranks-pass = scheme-at (λ n t. allBelow (ofRank n t (shareMasks n t)) (shares n t)) refl
 
 pub ranks-and-masks : RanksAndMasks
-unfolding ofMask ofRank
+unfolding RanksAndMasks ofMask ofRank
 ranks-and-masks n t h = (
   λ rank low.
       let both = and-parts (isShareMask n t (maskOf n t rank)) _ (below-at (ofRank n t (shareMasks n t)) (shares n t) rank (ranks-pass n t h) low) in
@@ -79,4 +79,9 @@ unfolding toCome
 come-all mask = refl
 
 pub sum-few : (n t mask : ℕ) → lawful n t ≡ true → isShareMask n t mask ≡ true → rankSum mask < 70
+unfolding RankIsSum RanksAndMasks
 sum-few n t mask h is = omega (arith, rank-is-sum n t mask h is, ranks-and-masks n t h .1 mask is .0, shares-few n t h)
+
+pub sum-is-rank : (n t mask sum : ℕ) → lawful n t ≡ true → isShareMask n t mask ≡ true → sum ≡ rankSum mask → sum ≡ rankOf n t mask
+unfolding RankIsSum
+sum-is-rank n t mask sum h is e = e ∙ sym (rank-is-sum n t mask h is)

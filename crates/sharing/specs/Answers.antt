@@ -2,14 +2,13 @@
 use mathlib.Core.Bool.{Bool, cond, _&&_}
 use Prim.Native.Nat.{ℕ, _*_, _^_}
 use lib.Dec.{leb, ltb}
-use Rattle.std.specs.shelf.Maps.{same-text as sameList}
 use Rattle.std.specs.declared.option.Option.{Option}
 use Rattle.std.specs.declared.option.Option.the-variants.{Some, None}
 use Rattle.std.specs.declared.result.Result.{Result}
 use Rattle.std.specs.declared.result.Result.the-variants.{Ok, Err}
 use Rattle.sharing.specs.Choose.{choose}
 use Rattle.sharing.specs.Masks.{lawful, isShareMask, shares, maskOf, rankOf}
-use Rattle.sharing.specs.Groups.{unitHas, groupRanks}
+use Rattle.sharing.specs.Groups.{unitHas, equalShares}
 use Rattle.sharing.specs.Split.{isQuorum, fallsTo}
 use Rattle.sharing.specs.declared.refusal.Refusal.{Refusal}
 use Rattle.sharing.specs.declared.refusal.Refusal.the-variants.{Parameters, Rank, Mask, Group, Quorum}
@@ -39,6 +38,5 @@ shareAt n t p rank = cond (unitHas n t p rank) (Some (16 * rank)) None
 abbrev pub fallsAnswer : ℕ → ℕ → ℕ → ℕ → Result ℕ Refusal
 fallsAnswer n t q rank = cond (isQuorum n t q) (provided (ltb rank (shares n t)) (fallsTo n t q rank) Rank) (Err Quorum)
 
--- two groups hold equal shares if their units have the same ranks between them
 abbrev pub equalAnswer : ℕ → ℕ → ℕ → ℕ → Result Bool Refusal
-equalAnswer n t a b = provided (ltb a (2 ^ n) && ltb b (2 ^ n)) (sameList (groupRanks n t a) (groupRanks n t b)) Group
+equalAnswer n t a b = provided (ltb a (2 ^ n) && ltb b (2 ^ n)) (equalShares n t a b) Group

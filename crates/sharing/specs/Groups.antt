@@ -4,6 +4,7 @@ use mathlib.Core.List.{List, [], _∷_}
 use Prim.Native.Nat.{ℕ}
 use Rattle.std.specs.Iters.{counting}
 use Rattle.std.specs.shelf.Lists.{kept-by}
+use Rattle.std.specs.shelf.Maps.{same-text as sameList}
 use Rattle.sharing.specs.Masks.{member, shares, maskOf}
 
 -- a unit has the share of a rank if its place is in that rank's mask
@@ -37,3 +38,7 @@ unitRanks n t p = kept-by (unitHas n t p) (ranks n t)
 
 abbrev pub groupRanks : ℕ → ℕ → ℕ → List ℕ
 groupRanks n t group = kept-by (groupHas n t group) (ranks n t)
+
+-- two groups hold equal shares if their units have the same ranks between them
+abbrev pub equalShares : ℕ → ℕ → ℕ → ℕ → Bool
+equalShares n t a b = sameList (groupRanks n t a) (groupRanks n t b)

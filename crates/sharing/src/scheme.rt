@@ -1,10 +1,12 @@
 ghost use mathlib.Core.Path.{_≡_};
-ghost use mathlib.Core.Bool.{true};
-ghost use Prim.Native.Nat.{ℕ};
+ghost use mathlib.Core.Bool.{true, _&&_};
+ghost use Prim.Native.Nat.{ℕ, _^_};
+ghost use lib.Dec.{ltb};
 ghost use lib.ListN.{length, getD};
 ghost use Rattle.std.specs.Results.{mapped};
-ghost use Rattle.sharing.specs.Masks.{lawful, isShareMask, shares, maskOf, rankSum};
-ghost use Rattle.sharing.specs.Groups.{unitHas};
+ghost use Rattle.sharing.specs.Masks.{lawful, isShareMask, shares, maskOf, rankOf};
+ghost use Rattle.sharing.specs.Groups.{unitHas, equalShares};
+ghost use Rattle.sharing.specs.Split.{isQuorum, fallsTo};
 ghost use Rattle.sharing.specs.Answers.{schemeAnswer, maskAnswer, rankAnswer, shareAt, fallsAnswer, equalAnswer};
 ghost use Rattle.sharing.specs.Laws.{GroupOfMembers, SharesCounted, RanksAndMasks, RankIsSum, FallsToOne, EnoughHaveAll, FewLackOne, EqualShares};
 use crate::group::first_common;
@@ -39,8 +41,7 @@ impl Scheme {
 
     /// The number of shares of a dealing.
     pub fn shares(&self) -> u8
-        ensures value { λ r. ⌜ r ≡ shares (now (self .entry) .n) (now (self .entry) .t) ⌝ }
-        ensures counted { λ _. ⌜ SharesCounted ⌝ }
+        ensures { λ r. ⌜ r ≡ shares (now (self .entry) .n) (now (self .entry) .t) ⌝ }
     {
         choose_of(self.n, self.t - 1)
     }
@@ -48,12 +49,14 @@ impl Scheme {
     /// The mask of the places that have the share of `rank`.
     pub fn mask_of(&self, rank: u8) -> Result<u8, Refusal>
         ensures value { λ r. ⌜ r ≡ maskAnswer (now (self .entry) .n) (now (self .entry) .t) rank ⌝ }
+        ensures counted { λ _. ⌜ SharesCounted ⌝ }
         ensures inverse { λ _. ⌜ RanksAndMasks ⌝ }
     {
+        let mask = self.mask_or_none(rank);
         if rank >= self.shares() {
             return Err(Refusal::Rank);
         }
-        Ok(self.mask_or_none(rank))
+        Ok(mask)
     }
 
     /// The rank of a share mask.
@@ -61,11 +64,10 @@ impl Scheme {
         ensures value { λ r. ⌜ r ≡ rankAnswer (now (self .entry) .n) (now (self .entry) .t) mask ⌝ }
         ensures sum { λ _. ⌜ RankIsSum ⌝ }
     {
-        let size = u32::from(self.n - self.t + 1);
-        if !is_within(mask, self.n) || mask.count_ones() != size {
+        if !self.is_share_mask(mask) {
             return Err(Refusal::Mask);
         }
-        Ok(binomial_sum(self.n, self.t, mask))
+        Ok(self.binomial_sum(mask))
     }
 
     /// Whether the unit at `place` has the share of `rank`.
@@ -86,18 +88,20 @@ impl Scheme {
         }
     }
 
-    /// The place that works out `rank` for a quorum.
+    /// The member of a quorum that `rank` falls to.
     pub fn falls_to(&self, quorum: u8, rank: u8) -> Result<u8, Refusal>
         ensures value { λ r. ⌜ r ≡ fallsAnswer (now (self .entry) .n) (now (self .entry) .t) quorum rank ⌝ }
         ensures once { λ _. ⌜ FallsToOne ⌝ }
         ensures enough { λ _. ⌜ EnoughHaveAll ⌝ }
         ensures few { λ _. ⌜ FewLackOne ⌝ }
     {
-        if !is_within(quorum, self.n) || quorum.count_ones() != u32::from(self.t) {
+        if !self.is_quorum(quorum) {
             return Err(Refusal::Quorum);
         }
-        let mask = self.mask_of(rank)?;
-        Ok(first_common(self.n, quorum, mask))
+        if rank >= self.shares() {
+            return Err(Refusal::Rank);
+        }
+        Ok(self.first_member(quorum, rank))
     }
 
     /// Whether the units of two groups have the same shares between them.
@@ -106,18 +110,78 @@ impl Scheme {
         ensures law { λ _. ⌜ EqualShares ⌝ }
         ensures groups { λ _. ⌜ GroupOfMembers ⌝ }
     {
-        if !is_within(a, self.n) || !is_within(b, self.n) {
+        if !self.are_within(a, b) {
             return Err(Refusal::Group);
         }
-        let t = u32::from(self.t);
-        Ok(a == b || (a.count_ones() >= t && b.count_ones() >= t))
+        Ok(self.same_shares(a, b))
     }
 
     // The mask of a rank, or the empty mask where there is no such rank.
     fn mask_or_none(&self, rank: u8) -> u8
-        ensures { λ r. ⌜ r ≡ maskOf (now (self .entry) .n) (now (self .entry) .t) rank ⌝ }
+        ensures value { λ r. ⌜ r ≡ maskOf (now (self .entry) .n) (now (self .entry) .t) rank ⌝ }
+        ensures counted { λ _. ⌜ SharesCounted ⌝ }
+        ensures inverse { λ _. ⌜ RanksAndMasks ⌝ }
     {
         self.masks.get(rank as usize).copied().unwrap_or(0)
+    }
+
+    // Whether the mask is a share mask, which has a rank.
+    fn is_share_mask(&self, mask: u8) -> bool
+        ensures value { λ r. ⌜ r ≡ isShareMask (now (self .entry) .n) (now (self .entry) .t) mask ⌝ }
+        ensures sum { λ _. ⌜ RankIsSum ⌝ }
+    {
+        is_within(mask, self.n) && mask.count_ones() == u32::from(self.n - self.t + 1)
+    }
+
+    // The rank: C(p1, 1) + C(p2, 2) + .. over the mask's ones, at the bits p1 < p2 < ..
+    fn binomial_sum(&self, mask: u8) -> u8
+        requires { ⌜ isShareMask (now self .n) (now self .t) mask ≡ true ⌝ }
+        ensures { λ r. ⌜ r ≡ rankOf (now (self .entry) .n) (now (self .entry) .t) mask ⌝ }
+    {
+        let mut sum = 0;
+        let mut ones = 0;
+        for bit in 0..8 {
+            if is_member(bit + 1, mask) {
+                ones += 1;
+                sum += choose_of(bit, ones);
+            }
+        }
+        sum
+    }
+
+    // Whether the group is a quorum, in which each rank falls to one member.
+    fn is_quorum(&self, group: u8) -> bool
+        ensures value { λ r. ⌜ r ≡ isQuorum (now (self .entry) .n) (now (self .entry) .t) group ⌝ }
+        ensures once { λ _. ⌜ FallsToOne ⌝ }
+        ensures enough { λ _. ⌜ EnoughHaveAll ⌝ }
+        ensures few { λ _. ⌜ FewLackOne ⌝ }
+    {
+        is_within(group, self.n) && group.count_ones() == u32::from(self.t)
+    }
+
+    // The smallest place that is both in the quorum and in the rank's mask.
+    fn first_member(&self, quorum: u8, rank: u8) -> u8
+        ensures { λ r. ⌜ r ≡ fallsTo (now (self .entry) .n) (now (self .entry) .t) quorum rank ⌝ }
+    {
+        first_common(self.n, quorum, self.mask_or_none(rank))
+    }
+
+    // Whether two groups are within n, so that the law of equal shares speaks of them.
+    fn are_within(&self, a: u8, b: u8) -> bool
+        ensures value { λ r. ⌜ r ≡ (ltb a (2 ^ now (self .entry) .n) && ltb b (2 ^ now (self .entry) .n)) ⌝ }
+        ensures law { λ _. ⌜ EqualShares ⌝ }
+        ensures groups { λ _. ⌜ GroupOfMembers ⌝ }
+    {
+        is_within(a, self.n) && is_within(b, self.n)
+    }
+
+    // By the law of equal shares no rank has to be looked at.
+    fn same_shares(&self, a: u8, b: u8) -> bool
+        requires { ⌜ (ltb a (2 ^ now self .n) && ltb b (2 ^ now self .n)) ≡ true ⌝ }
+        ensures { λ r. ⌜ r ≡ equalShares (now (self .entry) .n) (now (self .entry) .t) a b ⌝ }
+    {
+        let t = u32::from(self.t);
+        a == b || (a.count_ones() >= t && b.count_ones() >= t)
     }
 }
 
@@ -137,20 +201,4 @@ fn share_masks(n: u8, t: u8) -> [u8; 70]
         }
     }
     masks
-}
-
-// C(p1, 1) + C(p2, 2) + .. over the ones of a share mask, at the bits p1 < p2 < ..
-fn binomial_sum(n: u8, t: u8, mask: u8) -> u8
-    requires { ⌜ lawful n t ≡ true ⌝ ∗ ⌜ isShareMask n t mask ≡ true ⌝ }
-    ensures { λ r. ⌜ r ≡ rankSum mask ⌝ }
-{
-    let mut sum = 0;
-    let mut ones = 0;
-    for bit in 0..8 {
-        if is_member(bit + 1, mask) {
-            ones += 1;
-            sum += choose_of(bit, ones);
-        }
-    }
-    sum
 }

@@ -18,7 +18,7 @@ returns-then-is-member-2 c =
 
 no : (c : Joined-else-is-member) → both (c .args .a) (c .args .b) (c .loop-place .place) ≡ false
 no c = elim (c .else-is-member .came) [
-    else-is-member·by·then-is-member·else-is-member-2 w ↦ and-right _ _ (sym (w .if-is-member-2 .ensures tt))
+  | else-is-member·by·then-is-member·else-is-member-2 w ↦ and-right _ _ (sym (w .if-is-member-2 .ensures tt))
   | else-is-member·by·else-is-member w ↦ and-left _ _ (sym (w .if-is-member .ensures tt))
 ]
 

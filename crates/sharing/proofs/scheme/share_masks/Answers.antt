@@ -34,13 +34,13 @@ loop-mask-again c =
     let masks = c .loop-mask .masks in
     let low = mask-low n t mask (c .pre) (c .loop-mask-test .taken) in
     elim (c .if-mask-size .came) [
-        then-mask-size w ↦
-        let is = is-mask n t mask (c .pre) (c .loop-mask-test .taken) (w .if-mask-size .taken ∙ c .from-size .ensures) in
-        let room : count < 70 = rw (c .loop-mask .inv .1) (mask-fits n t mask (c .pre) low is) in
-        rw (w .masks-is, w .count-is) (sofar-yes n t mask count masks (c .loop-mask .inv) mask refl room is)
+      | then-mask-size w ↦
+          let is = is-mask n t mask (c .pre) (c .loop-mask-test .taken) (w .if-mask-size .taken ∙ c .from-size .ensures) in
+          let room : count < 70 = rw (c .loop-mask .inv .1) (mask-fits n t mask (c .pre) low is) in
+          rw (w .masks-is, w .count-is) (sofar-yes n t mask count masks (c .loop-mask .inv) mask refl room is)
       | else-mask-size w ↦
-        let no = not-mask n t mask (c .pre) (c .loop-mask-test .taken) (λ e. w .if-mask-size .left (e ∙ sym (c .from-size .ensures))) in
-        rw (w .masks-is, w .count-is) (sofar-no n t mask count masks (c .loop-mask .inv) no)
+          let no = not-mask n t mask (c .pre) (c .loop-mask-test .taken) (λ e. w .if-mask-size .left (e ∙ sym (c .from-size .ensures))) in
+          rw (w .masks-is, w .count-is) (sofar-no n t mask count masks (c .loop-mask .inv) no)
     ]
 
 pub returns : need.returns

@@ -8,6 +8,8 @@ use Rattle.std.specs.Places.{At}
 use Rattle.std.specs.declared.option.Option.{Option}
 use Rattle.std.specs.declared.option.Option.the-variants.{Some, None}
 use Rattle.std.proofs.shelf.Lists.{getD-past}
+use Rattle.sharing.proofs.Order.{shares-counted}
+use Rattle.sharing.proofs.Ranks.{ranks-and-masks}
 use Rattle.sharing.proofs.scheme.Scheme.mask_or_none.Needs as need
 
 -- an element, or 0 past the end
@@ -18,4 +20,8 @@ got xs i (Some x) h = h .1 0
 pub returns : need.returns
 returns c =
     let scheme = c .args .self .now in
-    c .unwrap-or .ensures ∙ ap (λ o. valueOr o 0) (c .copied .ensures) ∙ got (scheme .masks) (c .args .rank) (c .get .result) (c .get .ensures .finds .3) ∙ scheme .ordered (c .args .rank)
+    record {
+      value = c .unwrap-or .ensures ∙ ap (λ o. valueOr o 0) (c .copied .ensures) ∙ got (scheme .masks) (c .args .rank) (c .get .result) (c .get .ensures .finds .3) ∙ scheme .ordered (c .args .rank);
+      counted = shares-counted;
+      inverse = ranks-and-masks;
+    }
