@@ -10,7 +10,7 @@ use lib.Dec.{eqb}
 use lib.ListN.{length, getD}
 use Rattle.std.specs.Written.{decimal}
 use Rattle.std.specs.shelf.Lists.{All}
-use Rattle.std.proofs.shelf.Decimals.{decimal-by-steps}
+use Rattle.std.proofs.shelf.Decimals.{decimal-digit, decimal-step, decimal-by-steps}
 use Rattle.std.proofs.shelf.Elements.{all-append, all-push}
 use Rattle.std.proofs.shelf.Tests.{cond-both, not-true, and-parts, eqb-false, le-leb}
 use Rattle.sharing.specs.Masks.{lawful, shares}
@@ -20,13 +20,16 @@ use Rattle.script.specs.Lines.{lineFeed, linesOf}
 use Rattle.script.specs.Commands.{commandOf}
 use Rattle.script.specs.Answers.{numberOf, answerTo, wordsOf, answerLine}
 use Rattle.script.specs.Output.{answersFrom, outputOf}
-use Rattle.script.specs.Laws.{withFeed, EachLineAnswered}
+use Rattle.script.specs.Laws.{withFeed, DecimalDigits, EachLineAnswered}
 use Rattle.script.specs.declared.command.Command.{Command}
 use Rattle.script.specs.declared.command.Command.the-variants.{Deal, Unknown}
 use Rattle.script.specs.declared.answer.Answer.{Answer}
 use Rattle.script.specs.declared.answer.Answer.the-variants.{Dealt, Refused}
 use Rattle.script.specs.declared.answer.Refusal.the-variants.{Sharing}
 use Rattle.script.proofs.Lines.{NoFeed, lines-cons, lines-few}
+
+pub decimal-digits : DecimalDigits
+decimal-digits = (decimal-digit, decimal-step)
 
 decimal-plain : (n : ℕ) → n < 2 ^ 64 → NoFeed (decimal n)
 decimal-plain = decimal-by-steps (λ n ds. NoFeed ds) (λ n h. ((λ e. omega arith), tt)) (λ n ds h old. all-push (λ b. b ≡ lineFeed → ⊥) ds (48 + n % 10) old (λ e. omega arith))

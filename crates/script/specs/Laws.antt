@@ -2,7 +2,7 @@
 use mathlib.Core.Path.{_≡_}
 use mathlib.Core.Bool.{cond}
 use mathlib.Core.List.{List, [], _∷_, _++_}
-use Prim.Native.Nat.{ℕ, _+_, _≤_, _<_}
+use Prim.Native.Nat.{ℕ, _+_, _/_, _%_, _^_, _≤_, _<_}
 use lib.Chars.{codes}
 use lib.Dec.{eqb}
 use lib.ListN.{length, getD}
@@ -27,6 +27,12 @@ ended (b ∷ c ∷ bs) = b ∷ ended (c ∷ bs)
 -- the lines have no line feed, and with one after each they are the script
 abbrev pub LinesAreScript : Type 0
 LinesAreScript = (script : List ℕ) → (joined withFeed (linesOf script) ≡ ended script) × All (All (λ b. b ≡ lineFeed → ⊥)) (linesOf script)
+
+-- a number is written by its decimal digits, the highest first and with no zero in front
+abbrev pub DecimalDigits : Type 0
+DecimalDigits =
+    ((n : ℕ) → n < 10 → decimal n ≡ (48 + n) ∷ [])
+    × ((n : ℕ) → 10 ≤ n → n < 2 ^ 64 → decimal n ≡ decimal (n / 10) ++ (48 + n % 10) ∷ [])
 
 -- a line deals for n units with threshold t exactly when it is `d N T`
 abbrev pub DealIsLine : Type 0

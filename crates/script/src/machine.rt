@@ -4,7 +4,7 @@ ghost use Rattle.std.specs.Of.Vec.{vec-items};
 ghost use Rattle.std.specs.Vec.{made};
 ghost use Rattle.script.specs.Answers.{answerLine};
 ghost use Rattle.script.specs.Output.{outputOf};
-ghost use Rattle.script.specs.Laws.{LinesAreScript, DealIsLine, EachLineAnswered};
+ghost use Rattle.script.specs.Laws.{LinesAreScript, DecimalDigits, DealIsLine, EachLineAnswered};
 use crate::answer::Answer;
 use crate::answer::Refusal;
 use crate::command::Command;
@@ -19,6 +19,7 @@ pub const LIMIT: usize = 16_384;
 pub fn run(heap: Global, script: &[u8]) -> Result<Vec<u8>, AllocError>
     ensures value { λ r. ⌜ made r (λ output. vec-items output ≡ outputOf (now (script .entry))) ⌝ }
     ensures lines { λ _. ⌜ LinesAreScript ⌝ }
+    ensures decimals { λ _. ⌜ DecimalDigits ⌝ }
     ensures deal { λ _. ⌜ DealIsLine ⌝ }
     ensures each { λ _. ⌜ EachLineAnswered ⌝ }
 {

@@ -13,17 +13,17 @@ use Rattle.script.specs.Answers.{answerTo, answerLine}
 use Rattle.script.specs.Output.{answersFrom}
 use Rattle.script.proofs.Lines.{lines-are-script}
 use Rattle.script.proofs.Forms.{deal-is-line}
-use Rattle.script.proofs.Outputs.{each-line-answered}
+use Rattle.script.proofs.Outputs.{decimal-digits, each-line-answered}
 use Rattle.script.proofs.machine.run.Needs as need
 
 pub returns-in-Break-push-answer : need.returns-in-Break-push-answer
-returns-in-Break-push-answer c = record { value = search needs; lines = lines-are-script; deal = deal-is-line; each = each-line-answered }
+returns-in-Break-push-answer c = record { value = search needs; lines = lines-are-script; decimals = decimal-digits; deal = deal-is-line; each = each-line-answered }
 
 pub returns-then-script-gt-LIMIT : need.returns-then-script-gt-LIMIT
-returns-then-script-gt-LIMIT c = record { value = search needs; lines = lines-are-script; deal = deal-is-line; each = each-line-answered }
+returns-then-script-gt-LIMIT c = record { value = search needs; lines = lines-are-script; decimals = decimal-digits; deal = deal-is-line; each = each-line-answered }
 
 pub returns-in-Break-push-answer-2 : need.returns-in-Break-push-answer-2
-returns-in-Break-push-answer-2 c = record { value = search needs; lines = lines-are-script; deal = deal-is-line; each = each-line-answered }
+returns-in-Break-push-answer-2 c = record { value = search needs; lines = lines-are-script; decimals = decimal-digits; deal = deal-is-line; each = each-line-answered }
 
 -- one line more is answered
 step : (old new : List ℕ) (number : ℕ) (line : List ℕ) (script after all : List ℕ) → new ≡ old ++ answerLine (number + 1) (answerTo (commandOf line)) → linesOf script ≡ line ∷ linesOf after → old ++ answersFrom (number + 1) (linesOf script) ≡ all → new ++ answersFrom (number + 1 + 1) (linesOf after) ≡ all
@@ -49,6 +49,7 @@ returns c =
     record {
       value = rw (le-leb (length (c .args .script .now)) 16384 (omega arith)) whole;
       lines = lines-are-script;
+      decimals = decimal-digits;
       deal = deal-is-line;
       each = each-line-answered;
     }
