@@ -1,15 +1,14 @@
 -- The answers are the lines of the output. Assumes nothing.
-use mathlib.Core.Path.{_≡_, refl, sym, ap, ap₂, subst, _∙_}
+use mathlib.Core.Path.{_≡_, refl, sym, ap, subst, _∙_}
 use mathlib.Core.Bool.{Bool, true, not, _&&_}
 use mathlib.Core.List.{List, [], _∷_, _++_, append-assoc}
-use Prim.Native.Nat.{ℕ, zero, suc, _+_, _*_, _/_, _%_, _^_, _≤_, _<_}
+use Prim.Native.Nat.{ℕ, zero, suc, _+_, _%_, _^_, _<_}
 use native.Mathlib.Nat.{add-zero, add-comm}
 use native.Mathlib.Omega.{arith}
 use lib.Chars.{codes}
 use lib.Dec.{eqb}
 use lib.ListN.{length, getD}
 use Rattle.std.specs.Written.{decimal}
-use Rattle.std.specs.shelf.Lists.{All}
 use Rattle.std.proofs.shelf.Decimals.{decimal-digit, decimal-step, decimal-by-steps}
 use Rattle.std.proofs.shelf.Elements.{all-append, all-push}
 use Rattle.std.proofs.shelf.Tests.{cond-both, not-true, and-parts, eqb-false, le-leb}
@@ -18,8 +17,8 @@ use Rattle.sharing.specs.declared.refusal.Refusal.the-variants.{Parameters}
 use Rattle.sharing.proofs.Order.{shares-few}
 use Rattle.script.specs.Lines.{lineFeed, linesOf}
 use Rattle.script.specs.Commands.{commandOf}
-use Rattle.script.specs.Answers.{numberOf, answerTo, wordsOf, answerLine}
-use Rattle.script.specs.Output.{answersFrom, outputOf}
+use Rattle.script.specs.Answers.{numberOf, answerTo, answerLine}
+use Rattle.script.specs.Output.{answersFrom}
 use Rattle.script.specs.Laws.{withFeed, DecimalDigits, EachLineAnswered}
 use Rattle.script.specs.declared.command.Command.{Command}
 use Rattle.script.specs.declared.command.Command.the-variants.{Deal, Unknown}

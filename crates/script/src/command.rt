@@ -1,6 +1,6 @@
 ghost use mathlib.Core.Path.{_≡_};
 ghost use mathlib.Core.Bool.{_&&_};
-ghost use Rattle.script.specs.Commands.{isDigit, dealOf, commandOf};
+ghost use Rattle.script.specs.Commands.{dealOf, commandOf};
 
 // What a line asks for.
 #[derive(Clone, Copy)]

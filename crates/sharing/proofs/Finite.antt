@@ -1,11 +1,10 @@
 -- Tests over a range or a list, which antt computes, and what each tells of one number. Assumes nothing.
 use mathlib.Core.Path.{_≡_, refl, sym, ap, subst, _∙_}
 use mathlib.Core.Logic.{⊎-elim}
-use mathlib.Core.Bool.{Bool, true, false, cond, _&&_, _||_}
+use mathlib.Core.Bool.{Bool, true, false, cond, _&&_}
 use mathlib.Core.List.{List, [], _∷_}
 use Prim.Native.Nat.{ℕ, zero, suc, _+_, _-_, _≤_, _<_}
 use native.Mathlib.Omega.{arith}
-use lib.Dec.{T}
 use lib.ListN.{length, getD}
 use Rattle.std.specs.Iters.{counting}
 use Rattle.std.specs.shelf.Lists.{All, kept-by}
@@ -13,14 +12,6 @@ use Rattle.std.proofs.shelf.Elements.{all-kept-by}
 use Rattle.std.proofs.shelf.Tests.{false≢true, both-ways, cases-eq, cond-both, cond-true, cond-false, and-parts, or-cases, or-left, or-right}
 use Rattle.sharing.specs.Groups.{someOf}
 use Rattle.sharing.specs.Split.{firstOf}
-
--- a test that passed, as an equation and back
-pub T-true : (b : Bool) → T b → b ≡ true
-T-true true t = refl
-T-true false t = absurd t
-
-pub true-T : {b : Bool} → b ≡ true → T b
-true-T e = subst T (sym e) tt
 
 -- passes at each number below k
 unfoldable pub allBelow : (ℕ → Bool) → ℕ → Bool

@@ -1,5 +1,5 @@
 -- The share masks in their order. Assumes nothing.
-use mathlib.Core.Path.{_≡_, refl, sym, ap, subst, _∙_}
+use mathlib.Core.Path.{_≡_, refl, sym, ap, _∙_}
 use mathlib.Core.Logic.{⊎-elim}
 use mathlib.Core.Bool.{Bool, true, false, cond, _&&_}
 use mathlib.Core.List.{List, [], _∷_, _++_, append-nil}
@@ -9,17 +9,16 @@ use native.Mathlib.Numerals.{add-one}
 use native.Mathlib.Omega.{arith}
 use lib.Count.{ones, onesIn}
 use lib.Dec.{eqb, leb, ltb}
-use lib.Pow.{pow-mono}
 use lib.ListN.{length, getD, set, replicate, length-append, length-set}
 use lib.Seq.{getD-set-same, getD-set-other}
 use Rattle.std.specs.Iters.{counting}
 use Rattle.std.specs.shelf.Lists.{kept-by}
 use Rattle.std.proofs.shelf.Bits.{one-shl}
 use Rattle.std.proofs.shelf.Tests.{and-parts, and-from, and-right, eqb-true, leb-true, lt-ltb, eq-eqb, ne-eqb, cases-eq}
-use Rattle.std.proofs.shelf.Lists.{length-push, getD-push, getD-past}
+use Rattle.std.proofs.shelf.Lists.{length-push, getD-push}
 use Rattle.std.proofs.shelf.Elements.{kept-by-append}
 use Rattle.sharing.specs.Choose.{choose}
-use Rattle.sharing.specs.Masks.{lawful, isShareMask, shareMasks, shares, maskOf}
+use Rattle.sharing.specs.Masks.{lawful, isShareMask, shareMasks, shares}
 use Rattle.sharing.specs.Laws.{SharesCounted}
 use Rattle.sharing.proofs.Finite.{allBelow}
 use Rattle.sharing.proofs.Schemes.{n-high, everyScheme, scheme-at}
@@ -129,9 +128,6 @@ range-end n t h = let high = n-high n t h in one-shl n 16 (omega arith)
 module _ (n t mask : ℕ) (h : lawful n t ≡ true) (below : mask < (1 * 2 ^ n) % 65536) where
   pub mask-low : mask < 2 ^ n
   mask-low = omega (arith, range-end n t h)
-
-  pub mask-byte : mask < 256
-  mask-byte = let high = n-high n t h in omega (arith, mask-low, pow-mono {i = n} {j = 8} high)
 
   pub is-mask : ones mask ≡ n - t + 1 → isShareMask n t mask ≡ true
   is-mask e = and-from (ltb mask (2 ^ n)) (eqb (ones mask) (n - t + 1)) (lt-ltb mask (2 ^ n) mask-low) (eq-eqb (ones mask) (n - t + 1) e)

@@ -8,9 +8,6 @@ use Rattle.std.proofs.shelf.Tests.{and-parts, leb-true}
 use Rattle.sharing.specs.Masks.{lawful}
 use Rattle.sharing.proofs.Finite.{allBelow, below-at}
 
-pub t-low : (n t : ℕ) → lawful n t ≡ true → 2 ≤ t
-t-low n t h = leb-true 2 t (and-parts (leb 2 t) (leb t n && leb n 8) h .0)
-
 pub t-high : (n t : ℕ) → lawful n t ≡ true → t ≤ n
 t-high n t h = leb-true t n (and-parts (leb t n) (leb n 8) (and-parts (leb 2 t) (leb t n && leb n 8) h .1) .0)
 

@@ -1,15 +1,15 @@
 -- To whom a rank falls in a quorum. Assumes nothing.
-use mathlib.Core.Path.{_≡_, refl, sym, ap, _∙_}
-use mathlib.Core.Bool.{Bool, true, false, not, _&&_}
-use Prim.Native.Nat.{ℕ, _+_, _-_, _*_, _^_, _≤_, _<_}
+use mathlib.Core.Path.{_≡_}
+use mathlib.Core.Bool.{true, _&&_}
+use Prim.Native.Nat.{ℕ, _^_}
 use native.Mathlib.Omega.{arith}
 use lib.Count.{ones}
-use lib.Dec.{eqb, leb, ltb}
+use lib.Dec.{eqb, ltb}
 use Rattle.std.proofs.shelf.Tests.{and-parts, and-from, eqb-true, ltb-true}
-use Rattle.sharing.specs.Masks.{lawful, member, shares, maskOf}
+use Rattle.sharing.specs.Masks.{member}
 use Rattle.sharing.specs.Groups.{unitHas, places}
-use Rattle.sharing.specs.Split.{isQuorum, firstOf, fallsTo}
-use Rattle.sharing.specs.Laws.{Falls, FallsToOne}
+use Rattle.sharing.specs.Split.{fallsTo}
+use Rattle.sharing.specs.Laws.{FallsToOne}
 use Rattle.sharing.proofs.Finite.{first-passes, first-least}
 use Rattle.sharing.proofs.Groups.{enough-has}
 use Rattle.sharing.proofs.Members.{member-range}

@@ -1,7 +1,7 @@
 -- Worked examples, most of them for 5 units with threshold 3. Assumes nothing.
 use mathlib.Core.Path.{_≡_}
 use mathlib.Core.Bool.{not}
-use mathlib.Core.List.{List, [], _∷_}
+use mathlib.Core.List.{[], _∷_}
 use Prim.Native.Nat.{ℕ}
 use Rattle.std.specs.shelf.Lists.{kept-by}
 use Rattle.sharing.specs.Masks.{groupOf, shares, rankOf}

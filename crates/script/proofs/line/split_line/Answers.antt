@@ -1,15 +1,11 @@
-use mathlib.Core.Path.{_≡_, sym, ap, ap₂, _∙_}
-use mathlib.Core.List.{_∷_}
 use Prim.Native.Nat.{suc, _+_}
 use native.Mathlib.Nat.{sub-zero}
 use native.Mathlib.Numerals.{add-one}
 use native.Mathlib.Omega.{arith}
-use lib.ListN.{length, length-drop}
+use lib.ListN.{length-drop}
 use Rattle.std.proofs.shelf.Lists.{take-rest, drop-all}
-use Rattle.script.specs.Lines.{linesOf}
 use Rattle.script.proofs.Lines.{lines-first}
 use Rattle.script.proofs.line.split_line.Needs as need
-use Rattle.script.proofs.line.split_line.Needs.{After-line-length-end}
 
 pub returns-then-end-script : need.returns-then-end-script
 returns-then-end-script c =

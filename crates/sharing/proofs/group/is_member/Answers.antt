@@ -1,6 +1,5 @@
 use mathlib.Core.Path.{sym}
 use mathlib.Core.Logic.{⊎-elim}
-use Prim.Native.Nat.{_<_}
 use native.Mathlib.Omega.{arith}
 use lib.Dec.{leb}
 use Rattle.std.proofs.shelf.Tests.{and-left, lt-leb}

@@ -1,9 +1,8 @@
-use mathlib.Core.Path.{_≡_, refl, sym, ap, subst, _∙_}
-use Prim.Native.Nat.{ℕ, _^_, _<_}
+use mathlib.Core.Path.{_≡_, refl, sym, _∙_}
+use Prim.Native.Nat.{_^_, _<_}
 use native.Mathlib.Omega.{arith}
-use lib.ListN.{getD}
 use Rattle.sharing.specs.Masks.{shareMasks}
-use Rattle.sharing.proofs.Order.{keptBelow, mask-fits, filled-none, sofar-yes, sofar-no, range-end, mask-low, mask-byte, is-mask, not-mask}
+use Rattle.sharing.proofs.Order.{mask-fits, filled-none, sofar-yes, sofar-no, range-end, mask-low, is-mask, not-mask}
 use Rattle.sharing.proofs.scheme.share_masks.Needs as need
 use Rattle.sharing.proofs.scheme.share_masks.Needs.{Then-mask-size, then-mask-size, else-mask-size}
 
