@@ -12,7 +12,7 @@ use Rattle.std.specs.shelf.Lists.{All}
 use Rattle.script.specs.Lines.{lineFeed, linesOf}
 use Rattle.script.specs.Commands.{commandOf}
 use Rattle.script.specs.Answers.{answerTo, answerLine}
-use Rattle.script.specs.Output.{outputOf}
+use Rattle.script.specs.Output.{mostBytes, outputOf}
 use Rattle.script.specs.declared.command.Command.the-variants.{Deal}
 
 abbrev pub withFeed : List ℕ → List ℕ
@@ -44,6 +44,6 @@ DealIsLine =
 -- the output has a line for each line of the script: the answer to it, under its number
 abbrev pub EachLineAnswered : Type 0
 EachLineAnswered =
-    (script : List ℕ) → length script ≤ 16384
+    (script : List ℕ) → length script ≤ mostBytes
     → (length (linesOf (outputOf script)) ≡ length (linesOf script))
     × ((k : ℕ) → k < length (linesOf script) → withFeed (getD (linesOf (outputOf script)) k []) ≡ answerLine (k + 1) (answerTo (commandOf (getD (linesOf script) k []))))

@@ -15,6 +15,10 @@ unfoldable pub answersFrom : ℕ → List (List ℕ) → List ℕ
 answersFrom number [] = []
 answersFrom number (line ∷ lines) = answerLine number (answerTo (commandOf line)) ++ answersFrom (number + 1) lines
 
--- each line answered under its number, from 1; a script of more than 16,384 bytes is refused as a whole
+-- the bytes that a script may have
+abbrev pub mostBytes : ℕ
+mostBytes = 16384
+
+-- each line answered under its number, from 1; a script of more bytes is refused as a whole
 abbrev pub outputOf : List ℕ → List ℕ
-outputOf input = cond (leb (length input) 16384) (answersFrom 1 (linesOf input)) (answerLine 0 (Refused TooLong))
+outputOf input = cond (leb (length input) mostBytes) (answersFrom 1 (linesOf input)) (answerLine 0 (Refused TooLong))

@@ -13,7 +13,7 @@ use Rattle.std.specs.Orderings.{Decides}
 use Rattle.std.proofs.shelf.Tests.{false≢true, not-true, cases-lt, and-parts, and-from, or-cases, eqb-true, ltb-true, le-leb, lt-ltb}
 use Rattle.std.proofs.shelf.Ways.{same-from-decides, decides-like}
 use Rattle.sharing.specs.Choose.{choose}
-use Rattle.sharing.specs.Masks.{lawful, groupOf, member, shareMasks, shares, maskOf}
+use Rattle.sharing.specs.Masks.{lawful, groupOf, member, isWithin, shareMasks, shares, maskOf}
 use Rattle.sharing.specs.Groups.{someOf, places, members, ranks, groupHas, groupRanks, equalShares}
 use Rattle.sharing.specs.Laws.{GroupOfMembers, EnoughHaveAll, FewLackOne, EqualShares}
 use Rattle.sharing.proofs.Finite.{allBelow, below-at, allIn, in-at, in-range, some-at, some-in, implies, implied, kept-same, kept-all, kept-tells}
@@ -139,9 +139,9 @@ equal-shares n t a b h low-a low-b = (forth, back)
     back = ⊎-elim (ap (groupRanks n t)) (λ both. enough-have-all n t a h low-a (both .0) ∙ sym (enough-have-all n t b h low-b (both .1)))
 
 -- whoever decides the law's right side answers whether two groups hold equal shares
-pub equal-from : (n t a b : ℕ) → lawful n t ≡ true → (ltb a (2 ^ n) && ltb b (2 ^ n)) ≡ true → (r : Bool) → Decides r ((a ≡ b) ⊎ ((t ≤ ones a) × (t ≤ ones b))) → r ≡ equalShares n t a b
+pub equal-from : (n t a b : ℕ) → lawful n t ≡ true → (isWithin n a && isWithin n b) ≡ true → (r : Bool) → Decides r ((a ≡ b) ⊎ ((t ≤ ones a) × (t ≤ ones b))) → r ≡ equalShares n t a b
 unfolding EqualShares
 equal-from n t a b h within r decides =
-    let lows = and-parts (ltb a (2 ^ n)) (ltb b (2 ^ n)) within in
+    let lows = and-parts (isWithin n a) (isWithin n b) within in
     let law = equal-shares n t a b h (ltb-true a (2 ^ n) (lows .0)) (ltb-true b (2 ^ n) (lows .1)) in
     same-from-decides r (equalShares n t a b) (decides-like r (law .1) (law .0) decides) (bytes-decides (groupRanks n t a) (groupRanks n t b))

@@ -1,13 +1,13 @@
 -- What each call answers, at every input. Assumes nothing.
 use mathlib.Core.Bool.{Bool, cond, _&&_}
-use Prim.Native.Nat.{ℕ, _*_, _^_}
+use Prim.Native.Nat.{ℕ, _*_}
 use lib.Dec.{leb, ltb}
 use Rattle.std.specs.declared.option.Option.{Option}
 use Rattle.std.specs.declared.option.Option.the-variants.{Some, None}
 use Rattle.std.specs.declared.result.Result.{Result}
 use Rattle.std.specs.declared.result.Result.the-variants.{Ok, Err}
 use Rattle.sharing.specs.Choose.{choose}
-use Rattle.sharing.specs.Masks.{lawful, isShareMask, shares, maskOf, rankOf}
+use Rattle.sharing.specs.Masks.{lawful, isWithin, isShareMask, shares, maskOf, rankOf}
 use Rattle.sharing.specs.Groups.{unitHas, equalShares}
 use Rattle.sharing.specs.Split.{isQuorum, fallsTo}
 use Rattle.sharing.specs.declared.refusal.Refusal.{Refusal}
@@ -39,4 +39,4 @@ abbrev pub fallsAnswer : ℕ → ℕ → ℕ → ℕ → Result ℕ Refusal
 fallsAnswer n t q rank = cond (isQuorum n t q) (provided (ltb rank (shares n t)) (fallsTo n t q rank) Rank) (Err Quorum)
 
 abbrev pub equalAnswer : ℕ → ℕ → ℕ → ℕ → Result Bool Refusal
-equalAnswer n t a b = provided (ltb a (2 ^ n) && ltb b (2 ^ n)) (equalShares n t a b) Group
+equalAnswer n t a b = provided (isWithin n a && isWithin n b) (equalShares n t a b) Group

@@ -22,9 +22,13 @@ groupOf ps = sumBy (λ p. 2 ^ (p - 1)) ps
 abbrev pub member : ℕ → ℕ → Bool
 member p group = leb 1 p && not (eqb (bitAnd group (2 ^ (p - 1))) 0)
 
+-- the group has no place above n
+abbrev pub isWithin : ℕ → ℕ → Bool
+isWithin n group = ltb group (2 ^ n)
+
 -- a mask below 2 ^ n with exactly n - t + 1 ones
 abbrev pub isShareMask : ℕ → ℕ → ℕ → Bool
-isShareMask n t mask = ltb mask (2 ^ n) && eqb (ones mask) (n - t + 1)
+isShareMask n t mask = isWithin n mask && eqb (ones mask) (n - t + 1)
 
 -- the share masks in increasing order
 unfoldable pub shareMasks : ℕ → ℕ → List ℕ

@@ -1,16 +1,16 @@
 -- Quorums, and to whom a rank falls in one. Assumes nothing.
 use mathlib.Core.Bool.{Bool, cond, _&&_}
 use mathlib.Core.List.{List, [], _∷_}
-use Prim.Native.Nat.{ℕ, _^_}
+use Prim.Native.Nat.{ℕ}
 use lib.Count.{ones}
-use lib.Dec.{eqb, ltb}
+use lib.Dec.{eqb}
 use Rattle.std.specs.shelf.Lists.{kept-by}
-use Rattle.sharing.specs.Masks.{member}
+use Rattle.sharing.specs.Masks.{member, isWithin}
 use Rattle.sharing.specs.Groups.{unitHas, places, ranks}
 
 -- exactly t places within n
 abbrev pub isQuorum : ℕ → ℕ → ℕ → Bool
-isQuorum n t q = ltb q (2 ^ n) && eqb (ones q) t
+isQuorum n t q = isWithin n q && eqb (ones q) t
 
 -- the first of a list that passes the test, else 0
 unfoldable pub firstOf : (ℕ → Bool) → List ℕ → ℕ

@@ -1,8 +1,7 @@
 ghost use mathlib.Core.Path.{_≡_};
 ghost use mathlib.Core.Bool.{_&&_};
-ghost use Prim.Native.Nat.{_^_, _≤_};
-ghost use lib.Dec.{ltb};
-ghost use Rattle.sharing.specs.Masks.{member};
+ghost use Prim.Native.Nat.{_≤_};
+ghost use Rattle.sharing.specs.Masks.{member, isWithin};
 ghost use Rattle.sharing.specs.Groups.{places};
 ghost use Rattle.sharing.specs.Split.{firstOf};
 
@@ -19,7 +18,7 @@ pub(crate) fn is_member(place: u8, group: u8) -> bool
 // Whether the group has no place above `n`.
 pub(crate) fn is_within(group: u8, n: u8) -> bool
     requires { ⌜ n ≤ 8 ⌝ }
-    ensures { λ r. ⌜ r ≡ ltb group (2 ^ n) ⌝ }
+    ensures { λ r. ⌜ r ≡ isWithin n group ⌝ }
 {
     u16::from(group) < 1 << n
 }

@@ -1,10 +1,9 @@
 ghost use mathlib.Core.Path.{_≡_};
 ghost use mathlib.Core.Bool.{true, _&&_};
-ghost use Prim.Native.Nat.{ℕ, _^_};
-ghost use lib.Dec.{ltb};
+ghost use Prim.Native.Nat.{ℕ};
 ghost use lib.ListN.{length, getD};
 ghost use Rattle.std.specs.Results.{mapped};
-ghost use Rattle.sharing.specs.Masks.{lawful, isShareMask, shares, maskOf, rankOf};
+ghost use Rattle.sharing.specs.Masks.{lawful, isWithin, isShareMask, shares, maskOf, rankOf};
 ghost use Rattle.sharing.specs.Groups.{unitHas, equalShares};
 ghost use Rattle.sharing.specs.Split.{isQuorum, fallsTo};
 ghost use Rattle.sharing.specs.Answers.{schemeAnswer, maskAnswer, rankAnswer, shareAt, fallsAnswer, equalAnswer};
@@ -168,7 +167,7 @@ impl Scheme {
 
     // Whether two groups are within n, so that the law of equal shares speaks of them.
     fn are_within(&self, a: u8, b: u8) -> bool
-        ensures value { λ r. ⌜ r ≡ (ltb a (2 ^ now (self .entry) .n) && ltb b (2 ^ now (self .entry) .n)) ⌝ }
+        ensures value { λ r. ⌜ r ≡ (isWithin (now (self .entry) .n) a && isWithin (now (self .entry) .n) b) ⌝ }
         ensures law { λ _. ⌜ EqualShares ⌝ }
         ensures groups { λ _. ⌜ GroupOfMembers ⌝ }
     {
@@ -177,7 +176,7 @@ impl Scheme {
 
     // By the law of equal shares no rank has to be looked at.
     fn same_shares(&self, a: u8, b: u8) -> bool
-        requires { ⌜ (ltb a (2 ^ now self .n) && ltb b (2 ^ now self .n)) ≡ true ⌝ }
+        requires { ⌜ (isWithin (now self .n) a && isWithin (now self .n) b) ≡ true ⌝ }
         ensures { λ r. ⌜ r ≡ equalShares (now (self .entry) .n) (now (self .entry) .t) a b ⌝ }
     {
         let t = u32::from(self.t);
