@@ -1,5 +1,7 @@
 //! Keyed functions and commitments, as traits that generic code can rest on, and those of the product.
 
+#![tactic(auto)]
+
 mod commitment;
 mod commitments;
 mod function;

@@ -1,5 +1,7 @@
 //! Scripts: each line of the input is answered by a line of the output.
 
+#![tactic(auto)]
+
 mod answer;
 mod command;
 mod line;

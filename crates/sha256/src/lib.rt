@@ -1,5 +1,7 @@
 //! SHA-256 of a prefix followed by a message, and HMAC-SHA-256 with a key that is prepared once.
 
+#![tactic(auto)]
+
 mod compress;
 mod constants;
 mod hash;

@@ -1,5 +1,7 @@
 //! Sharing a key among units: each share goes to the units of one mask, and any `t` of `n` units have every share.
 
+#![tactic(auto)]
+
 mod examples;
 mod group;
 mod pascal;

@@ -1,4 +1,7 @@
 //! Runs the script on standard input, and writes its answers to standard output.
+
+#![tactic(auto)]
+
 use std::alloc::Global;
 use std::io;
 use std::io::{Read, Write};

@@ -1,6 +1,8 @@
 //! Runs the library's calls on published vectors and on many inputs, and prints what came out, to be compared with the
 //! documents and with other implementations.
 
+#![tactic(auto)]
+
 mod checksum;
 mod hashes;
 mod shares;
