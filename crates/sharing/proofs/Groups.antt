@@ -6,7 +6,7 @@ use Rattle.std.proofs.lemmas.Bool.{false≢true, not-true, cases_lt, and_parts, 
 use Rattle.std.proofs.lemmas.Bool.Decides.{same_from_decides, Decides-like}
 use Rattle.sharing.specs.Choose.{choose}
 use Rattle.sharing.specs.Masks.{lawful, group_of, member, is_within, share_masks, shares, mask_of}
-use Rattle.sharing.specs.Groups.{some_of, places, members, ranks, group_has, group_ranks, equal_shares}
+use Rattle.sharing.specs.Groups.{some_of, places, members, group_has, group_ranks, equal_shares}
 use Rattle.sharing.specs.Laws.{GroupOfMembers, EnoughHaveAll, FewLackOne, EqualShares}
 use Rattle.sharing.proofs.Finite.{all_below, below_at, all_in, in_at, in_range, some_at, some_in, implies, implied, kept_same, kept_all, kept_tells}
 use Rattle.sharing.proofs.Order.{length_masks}

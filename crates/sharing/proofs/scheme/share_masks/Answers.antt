@@ -19,8 +19,8 @@ room c =
 pub bounds-masks-count : goal.bounds-masks-count
 bounds-masks-count c = room c
 
-pub overflow-add-count : goal.overflow-add-count
-overflow-add-count c = record { fits = omega (arith, room c) }
+pub overflow_add-count : goal.overflow_add-count
+overflow_add-count c = record { fits = omega (arith, room c) }
 
 pub loop-mask-preserved : goal.loop-mask-preserved
 loop-mask-preserved c =

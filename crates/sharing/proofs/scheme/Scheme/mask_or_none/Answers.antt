@@ -15,7 +15,7 @@ pub returns : goal.returns
 returns c =
     let scheme = c.args.self.now in
     record {
-      value = c.unwrap-or.ensures ∙ ap (λ o. unwrap_or o 0) c.copied.ensures ∙ got scheme.masks c.args.rank c.get.result c.get.ensures.lookup.3 ∙ scheme.ordered c.args.rank;
+      value = c.unwrap_or.ensures ∙ ap (λ o. unwrap_or o 0) c.copied.ensures ∙ got scheme.masks c.args.rank c.get.result c.get.ensures.lookup.3 ∙ scheme.ordered c.args.rank;
       counted = shares_counted;
       inverse = ranks_and_masks;
     }
