@@ -7,8 +7,8 @@ use Rattle.script.proofs.line.split_line.Goals as goal
 pub returns-then-end-script : goal.returns-then-end-script
 returns-then-end-script c =
     let bs = c.args.script.now in
-    let n = c.line-length-end.result in
-    let told = c.line-length-end.ensures in
+    let n = c.line_length-end.result in
+    let told = c.line_length-end.ensures in
     let first = lines_first bs n c.requires told.within told.before told.found in
     record {
       lines = rw (sub-zero n, take_rest bs (n + 1), add-one n) first;
@@ -18,8 +18,8 @@ returns-then-end-script c =
 pub returns-else-end-script : goal.returns-else-end-script
 returns-else-end-script c =
     let bs = c.args.script.now in
-    let n = c.line-length-end.result in
-    let told = c.line-length-end.ensures in
+    let n = c.line_length-end.result in
+    let told = c.line_length-end.ensures in
     let first = lines_first bs n c.requires told.within told.before told.found in
     let past = drop_all n bs (omega arith) in
     record {
