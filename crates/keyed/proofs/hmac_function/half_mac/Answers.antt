@@ -9,6 +9,6 @@ unfolding hmac_table PreparedIsHmac
 returns c =
     let prepared = c.args.key.now in
     let input = c.args.input.now in
-    c.copy-from-slice.ensures.after
+    c.copy_from_slice.ensures.after
     ∙ ap (take 16)
     (c.mac-mac.ensures.value ∙ ap (λ k. mac_of k input) prepared.made ∙ c.mac-mac.ensures.law prepared.key input)

@@ -10,7 +10,7 @@ unfolding key_block
 returns-then-key-le64 c =
     let key = c.args.key.now in
     record {
-      value = c.zero-filled.ensures ∙ ap (λ b. zero_filled (cond b key (sha256 key))) (sym (le-leb (length key) 64 (omega arith)));
+      value = c.zero_filled.ensures ∙ ap (λ b. zero_filled (cond b key (sha256 key))) (sym (le-leb (length key) 64 (omega arith)));
       zeros = zeros_after_key;
     }
 
@@ -20,7 +20,7 @@ returns-else-key-le64 c =
     let key = c.args.key.now in
     record {
       value =
-          c.zero-filled-else-key-le64.ensures
+          c.zero_filled-else-key-le64.ensures
           ∙ ap zero_filled c.digest.ensures.value
           ∙ ap (λ b. zero_filled (cond b key (sha256 key))) (sym (lt-leb (length key) 64 (omega arith)));
       zeros = zeros_after_key;

@@ -6,5 +6,5 @@ use Rattle.sha256.proofs.hmac.zero_filled.Goals as goal
 pub returns : goal.returns
 returns c =
     let bytes = c.args.bytes.now in
-    ap₂ (λ x n. x ++ drop n (replicate 64 0)) c.copy-from-slice.ensures.after (sub-zero (length bytes))
+    ap₂ (λ x n. x ++ drop n (replicate 64 0)) c.copy_from_slice.ensures.after (sub-zero (length bytes))
     ∙ ap (λ x. bytes ++ x) (drop-replicate (length bytes) 64 0)

@@ -12,7 +12,7 @@ loop-i-preserved c =
     let i = c.loop-i.i in
     let word : ℕ → ℕ = λ k. word_at c.args.block.now (4 * k) in (
       length-set words i _ ∙ c.loop-i.invariant.0,
-      subst (λ v. (k : ℕ) → k < i + 1 → get_or (set words i v) k 0 ≡ word k) (sym c.word-at.ensures)
+      subst (λ v. (k : ℕ) → k < i + 1 → get_or (set words i v) k 0 ≡ word k) (sym c.word_at.ensures)
           (fill_by_more word words i 0 (omega arith) c.loop-i.invariant.1),
     )
 

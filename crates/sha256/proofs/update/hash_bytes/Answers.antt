@@ -10,7 +10,7 @@ pub loop-i-preserved : goal.loop-i-preserved
 loop-i-preserved c =
     let i = c.loop-i.i in
     let hash = c.args.hash.now in
-    let word = c.copy-from-slice.ensures.after ∙ c.to-be-bytes.ensures in (
+    let word = c.copy_from_slice.ensures.after ∙ c.to_be_bytes.ensures in (
       search (rules, places),
       take-put_mid (4 * i) _ c.loop-i.bytes _ (4 * (i + 1)) (omega (arith, ap length word)) (omega arith)
           ∙ ap₂ (λ x y. x ++ y) c.loop-i.invariant.1 word

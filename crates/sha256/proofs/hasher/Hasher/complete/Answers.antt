@@ -11,8 +11,8 @@ pub returns : goal.returns
 returns c =
     let self = c.args.self.now in
     let bytes = c.args.bytes.now in
-    let part = c.copy-from-slice.ensures.after in
-    let block = put_mid self.filled (64 - self.filled) self.block c.copy-from-slice.new.self in
+    let part = c.copy_from_slice.ensures.after in
+    let block = put_mid self.filled (64 - self.filled) self.block c.copy_from_slice.new.self in
     let long : length (take self.filled self.block) ≡ self.filled = length-take-le _ _ (omega arith) in
     let size : length block ≡ 64 = search (rules, places) in
     let filled : block ≡ take self.filled self.block ++ bytes =

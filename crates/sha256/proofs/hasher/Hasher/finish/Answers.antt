@@ -12,10 +12,10 @@ unfolding finished padding
 returns c =
     let r = running_of c.args.self in
     let zeros = zeros_after r.count in
-    let size = ap (λ n. n + 1 - 0) c.zeros-after-zeros.ensures ∙ sub-zero (zeros + 1) ∙ add-one zeros in
-    let front = ap₂ take size c.one-and-zeros.ensures ∙ ap (λ x. 128 ∷ x) (take-replicate zeros 63 0 (omega arith)) in
-    c.hash-bytes.ensures
+    let size = ap (λ n. n + 1 - 0) c.zeros_after-zeros.ensures ∙ sub-zero (zeros + 1) ∙ add-one zeros in
+    let front = ap₂ take size c.one_and_zeros.ensures ∙ ap (λ x. 128 ∷ x) (take-replicate zeros 63 0 (omega arith)) in
+    c.hash_bytes.ensures
     ∙ ap (λ s. hash_bytes s.hash)
     (c.update-2.ensures
-    ∙ ap₂ absorbed (c.update.ensures ∙ ap (absorbed r) front) c.length-field-length.ensures
+    ∙ ap₂ absorbed (c.update.ensures ∙ ap (absorbed r) front) c.length_field-length.ensures
     ∙ absorbed_two r (128 ∷ replicate zeros 0) (length_field r.count))

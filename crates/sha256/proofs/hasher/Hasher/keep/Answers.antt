@@ -5,16 +5,16 @@ use Rattle.sha256.specs.Inner.{running_of}
 use Rattle.sha256.proofs.Parts.{same, absorbed_few}
 use Rattle.sha256.proofs.hasher.Hasher.keep.Goals as goal
 
-pub invariant-of-self : goal.invariant-of-self
-invariant-of-self c =
-    let part = ap length c.copy-from-slice.ensures.after in
-    (omega arith, (search (rules, places), tt))
+pub invariant_of-self : goal.invariant_of-self
+invariant_of-self c =
+    let part = ap length c.copy_from_slice.ensures.after in
+    record { room = omega arith; long = search (rules, places) }
 
 pub returns : goal.returns
 returns c =
     let self = c.args.self.now in
     let bytes = c.args.bytes.now in
-    let part = c.copy-from-slice.ensures.after in
+    let part = c.copy_from_slice.ensures.after in
     let long : length (take self.filled self.block) ≡ self.filled = length-take-le _ _ (omega arith) in
     same refl
     (take-put_mid self.filled _ self.block _ _ (omega (arith, ap length part)) (omega arith) ∙ ap (λ x. take self.filled self.block ++ x) part)

@@ -12,6 +12,6 @@ returns c =
     record {
       empty = c.requires.0;
       after =
-          same (c.compress-all.ensures ∙ ap (λ x. compressed_all (length bytes / 64) self.hash (x ++ bytes)) (sym none)) none refl
+          same (c.compress_all.ensures ∙ ap (λ x. compressed_all (length bytes / 64) self.hash (x ++ bytes)) (sym none)) none refl
           ∙ sym (absorbed_whole (running_of self) bytes (length bytes / 64) (omega (arith, ap length none)));
     }

@@ -11,7 +11,7 @@ returns-else-bytes-room c =
     let r = running_of c.args.self.now in
     let bytes = c.args.bytes.now in
     let room = 64 - c.args.self.now.filled in
-    c.update-whole-else-bytes-room.ensures
+    c.update_whole-else-bytes-room.ensures
     ∙ ap₂ absorbed (c.complete.ensures.after ∙ ap (λ n. absorbed r (take n bytes)) (sub-zero room)) (take_rest bytes room)
     ∙ absorbed_two r (take room bytes) (drop room bytes)
     ∙ ap (absorbed r) (take-append-drop room bytes)

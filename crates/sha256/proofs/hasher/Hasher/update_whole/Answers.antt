@@ -12,6 +12,6 @@ returns c =
     let bytes = c.args.bytes.now in
     let whole = length bytes / 64 * 64 in
     c.keep.ensures
-    ∙ ap₂ absorbed (c.take-blocks.ensures.after ∙ ap (λ n. absorbed r (take n bytes)) (sub-zero whole)) (take_rest bytes whole)
+    ∙ ap₂ absorbed (c.take_blocks.ensures.after ∙ ap (λ n. absorbed r (take n bytes)) (sub-zero whole)) (take_rest bytes whole)
     ∙ absorbed_two r (take whole bytes) (drop whole bytes)
     ∙ ap (absorbed r) (take-append-drop whole bytes)
