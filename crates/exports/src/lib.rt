@@ -1,4 +1,4 @@
-//! Calls for programs in C, linked as a static library: `rt staticlib exports`.
+//! Calls for programs in C, as a library that other crates can stand on. `exports_c` has them for the linker.
 
 #![tactic(auto)]
 

@@ -1,6 +1,6 @@
 -- What holds of every script. Assumes nothing.
 use Rattle.std.specs.Prelude.{◌≡◌, ℕ, ◌+◌, ◌/◌, ◌%◌, ◌^◌, ◌<◌, ◌≤◌, cond, List, [], ◌∷◌, ◌++◌, length, codes, decimal, ◌==◌, ◌≢◌, slice_index_or}
-use Rattle.std.specs.List.{flat_map, AllByRecursion as All}
+use Rattle.std.specs.List.{flat_map, AllByRecursion}
 use Rattle.script.specs.Lines.{line_feed, lines_of}
 use Rattle.script.specs.Commands.{command_of}
 use Rattle.script.specs.Answers.{answer_to, answer_line}
@@ -18,7 +18,7 @@ ended (b ∷ c ∷ bs) = b ∷ ended (c ∷ bs)
 
 -- the lines have no line feed, and with one after each they are the script
 abbrev pub LinesAreScript : Type 0
-LinesAreScript = (script : List ℕ) → (flat_map with_feed (lines_of script) ≡ ended script) × All (All (λ b. b ≢ line_feed)) (lines_of script)
+LinesAreScript = (script : List ℕ) → (flat_map with_feed (lines_of script) ≡ ended script) × AllByRecursion (AllByRecursion (λ b. b ≢ line_feed)) (lines_of script)
 
 -- a number is written by its decimal digits, the highest first and with no zero in front
 abbrev pub DecimalDigits : Type 0

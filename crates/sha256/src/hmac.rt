@@ -1,5 +1,5 @@
 ghost use Rattle.std.specs.Prelude.{◌≡◌, ◌≤◌, length};
-ghost use Rattle.sha256.specs.Hmac.{zero_filled, key_block, midstate as midstateOf, prepared_key, digest_after, mac_of};
+ghost use Rattle.sha256.specs.Hmac.{zero_filled, key_block, midstate as midstate_of, prepared_key, digest_after, mac_of};
 ghost use Rattle.sha256.specs.Laws.{PreparedIsHmac, ZerosAfterKey};
 
 use crate::compress::compress;
@@ -62,7 +62,7 @@ fn zero_filled(bytes: &[u8]) -> [u8; 64]
 
 // The hash after a block under a pad.
 fn midstate(block: [u8; 64], pad: u8) -> [u32; 8]
-    ensures { result ≡ midstateOf pad block }
+    ensures { result ≡ midstate_of pad block }
 {
     let mut masked = block;
     for byte in masked.iter_mut() {
