@@ -1,5 +1,5 @@
 #!/usr/bin/env python3
-"""The lines on digests, keyed functions and commitments that crates/vectors must print.
+"""The lines on digests, keyed functions and commitments that crates/hash_vectors must print.
 
 The published values are written out as the documents have them. All else comes from Python's hashlib and hmac modules,
 which share nothing with the library.

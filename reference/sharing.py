@@ -1,8 +1,8 @@
 #!/usr/bin/env python3
-"""The lines on shares that crates/vectors must print, from the rules of docs/SHARING.md alone.
+"""What crates/vectors must print, from the rules of docs/SHARING.md alone.
 
 It works with sets of places and shares no code, table or formula with the library: a share belongs to each set of units
-that leaves out t - 1 of them.
+that leaves out t - 1 of them. `python3 reference/sharing.py` writes crates/vectors/stdout.
 """
 from itertools import combinations
 from math import comb

@@ -1,5 +1,3 @@
-use sharing::Refusal;
-
 // A checksum of numbers in their order.
 #[derive(Clone, Copy)]
 pub(crate) struct Checksum(u32);
@@ -20,14 +18,6 @@ impl Checksum {
     pub(crate) fn add_bytes(&mut self, bytes: &[u8]) {
         for byte in bytes {
             self.add(u32::from(*byte));
-        }
-    }
-
-    // An answer as it is, a refusal as its number past all answers.
-    pub(crate) fn add_answer(&mut self, answer: Result<u8, Refusal>) {
-        match answer {
-            Ok(x) => self.add(u32::from(x)),
-            Err(refusal) => self.add(1_000 + u32::from(refusal.number())),
         }
     }
 }
