@@ -1,7 +1,7 @@
 ghost use Rattle.std.specs.Prelude.{◌≡◌, ◌++◌};
 ghost use Rattle.keyed.specs.Tables.{hash_commitment, hmac_commitment};
 ghost use Rattle.sha256.proofs.Digests.{sha256_length, sha256_bytes, hmac_length, hmac_bytes};
-ghost use Rattle.std.proofs.Common.{rules};
+ghost use Rattle.std.proofs.Common.{lit<};
 
 use crate::commitment::Commitment;
 use crate::refusal::{Refusal, check_length};
@@ -17,7 +17,7 @@ impl Commitment for HashCommitment {
 
     ghost table = { hash_commitment };
 
-    ghost small = { Prim.search rules };
+    ghost small = { lit< tt };
 
     ghost entries = { λ opening message. record { size = sha256_length (opening ++ message); small = sha256_bytes (opening ++ message) } };
 
@@ -41,7 +41,7 @@ impl Commitment for HmacCommitment {
 
     ghost table = { hmac_commitment };
 
-    ghost small = { Prim.search rules };
+    ghost small = { lit< tt };
 
     ghost entries = { λ opening message. record { size = hmac_length opening message; small = hmac_bytes opening message } };
 

@@ -1,10 +1,7 @@
-ghost use Rattle.std.specs.Prelude.{◌≡◌, ◌<◌};
+ghost use Rattle.std.specs.Prelude.{◌≡◌};
 ghost use Rattle.keyed.specs.Tables.{hmac_table};
-ghost use Rattle.std.proofs.Common.{arith, rules};
-ghost use Rattle.std.proofs.ByRecursion.{All-take};
-ghost use Rattle.std.proofs.lemmas.List.{length-take-le};
-ghost use Rattle.sha256.specs.Hmac;
-ghost use Rattle.sha256.proofs.Digests.{hmac_length, hmac_bytes};
+ghost use Rattle.std.proofs.Common.{lit<};
+ghost use Rattle.sha256.proofs.Digests.{hmac_front_bytes};
 
 use crate::function::KeyedFunction;
 use crate::prepared::PreparedHmac;
@@ -25,14 +22,9 @@ impl KeyedFunction for HmacFunction {
 
     ghost made_from = { λ p. p.key };
 
-    ghost small = { Prim.search rules };
+    ghost small = { lit< tt };
 
-    ghost entries = { unfold hmac_table in
-        λ key input.
-        record {
-          size = length-take-le 16 (Hmac.hmac key input) (omega (arith, hmac_length key input));
-          small = All-take (λ x. x < 256) 16 (Hmac.hmac key input) (hmac_bytes key input);
-        } };
+    ghost entries = { unfold hmac_table in hmac_front_bytes };
 
     fn id() -> u8 {
         Self::NUMBER

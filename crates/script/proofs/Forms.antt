@@ -50,18 +50,18 @@ forth line n t e =
     let long = and_parts (eqb (length rest) 3) _ deal.0 in
     let first = and_parts (is_digit (get_or rest 0 0)) _ long.1 in
     let second = and_parts (eqb (get_or rest 1 0) blank) _ first.1 in
-    let low-n = digit_low (get_or rest 0 0) first.0 in
-    let low-t = digit_low (get_or rest 2 0) second.1 in
+    let low_n = digit_low (get_or rest 0 0) first.0 in
+    let low_t = digit_low (get_or rest 2 0) second.1 in
     let made : Deal (get_or rest 0 0 - 48) (get_or rest 2 0 - 48) ≡ Deal n t = deal.1 in
-    let is-n : get_or rest 0 0 - 48 ≡ n = cc in
-    let is-t : get_or rest 2 0 - 48 ≡ t = cc in
+    let is_n : get_or rest 0 0 - 48 ≡ n = cc in
+    let is_t : get_or rest 2 0 - 48 ≡ t = cc in
     let size : length line ≡ 5 = omega (arith, leb-true 2 (length line) parts.0, eqb-true (length rest) 3 long.0, length-drop 2 line) in
     let at_n : get_or line 2 0 ≡ 48 + n = sym (get_or-drop 2 line 0 0) ∙ omega arith in
-    let at-t : get_or line 4 0 ≡ 48 + t = sym (get_or-drop 2 line 2 0) ∙ omega arith in
-    let at-blank : get_or line 3 0 ≡ 32 = sym (get_or-drop 2 line 1 0) ∙ eqb-true (get_or rest 1 0) blank second.0 in
-    let at-letter = eqb-true (get_or line 0 0) 100 inner.0 in
+    let at_t : get_or line 4 0 ≡ 48 + t = sym (get_or-drop 2 line 2 0) ∙ omega arith in
+    let at_blank : get_or line 3 0 ≡ 32 = sym (get_or-drop 2 line 1 0) ∙ eqb-true (get_or rest 1 0) blank second.0 in
+    let at_letter = eqb-true (get_or line 0 0) 100 inner.0 in
     let at_first = eqb-true (get_or line 1 0) blank parts.1 in
-    (omega arith, omega arith, five line size ∙ rw (at_n, at-t, at-blank, at-letter, at_first) refl)
+    (omega arith, omega arith, five line size ∙ rw (at_n, at_t, at_blank, at_letter, at_first) refl)
 
 pub deal_is_line : DealIsLine
 deal_is_line line n t = (

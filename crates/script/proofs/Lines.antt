@@ -1,6 +1,6 @@
 -- The first line, and the rest. Assumes nothing.
 use Rattle.std.proofs.Common.{◌≡◌, ℕ, zero, suc, ◌<◌, ◌≤◌, Bool, true, false, cond, eqb, List, [], ◌∷◌, ◌++◌, length, get_or, take, drop, sym, refl, ap, ◌∙◌, ap₂, arith}
-use Rattle.std.specs.List.{flat_map, AllByRecursion as All}
+use Rattle.std.specs.List.{flat_map, AllByRecursion}
 use Rattle.std.proofs.lemmas.Bool.{eq-eqb, ne_eqb, eqb-true, eqb-false, cond-true, cond-false, cond_both}
 use Rattle.script.specs.Lines.{line_feed, in_front, lines_of}
 use Rattle.script.specs.Laws.{with_feed, ended, LinesAreScript}
@@ -16,7 +16,7 @@ lines_first (b ∷ c ∷ bs) (suc n) some within before found =
     ∙ ap (in_front b) (lines_first (c ∷ bs) n (omega arith) (omega arith) (λ k low. before (suc k) (omega arith)) (λ low. found (omega arith)))
 
 abbrev pub NoFeed : List ℕ → Type 0
-NoFeed = All (λ b. b ≡ line_feed → ⊥)
+NoFeed = AllByRecursion (λ b. b ≡ line_feed → ⊥)
 
 -- a line in front of a script
 pub lines_cons : (line rest : List ℕ) → NoFeed line → lines_of (line ++ line_feed ∷ rest) ≡ line ∷ lines_of rest
@@ -34,7 +34,7 @@ unfolding in_front
 front_joined b c bs [] e = absurd (omega (arith, ap length e, ended_some c bs))
 front_joined b c bs (line ∷ lines) e = ap (λ l. b ∷ l) e
 
-front_none : (b : ℕ) (lines : List (List ℕ)) → (b ≡ line_feed → ⊥) → All NoFeed lines → All NoFeed (in_front b lines)
+front_none : (b : ℕ) (lines : List (List ℕ)) → (b ≡ line_feed → ⊥) → AllByRecursion NoFeed lines → AllByRecursion NoFeed (in_front b lines)
 unfolding in_front
 front_none b [] ne all = ((ne, tt), tt)
 front_none b (line ∷ lines) ne all = ((ne, all.0), all.1)
@@ -52,11 +52,11 @@ whole (b ∷ c ∷ bs) =
     (λ is. ap₂ (λ x l. x ∷ l) (sym (eqb-true b line_feed is)) (whole (c ∷ bs)))
     (λ _. front_joined b c bs (lines_of (c ∷ bs)) (whole (c ∷ bs)))
 
-none : (bs : List ℕ) → All NoFeed (lines_of bs)
+none : (bs : List ℕ) → AllByRecursion NoFeed (lines_of bs)
 unfolding lines_of
 none [] = tt
 none (b ∷ bs) =
-    cond_both (eqb b line_feed) ([] ∷ lines_of bs) (in_front b (lines_of bs)) (All NoFeed) (λ _. (tt, none bs)) (λ ne. front_none b (lines_of bs) (eqb-false b line_feed ne) (none bs))
+    cond_both (eqb b line_feed) ([] ∷ lines_of bs) (in_front b (lines_of bs)) (AllByRecursion NoFeed) (λ _. (tt, none bs)) (λ ne. front_none b (lines_of bs) (eqb-false b line_feed ne) (none bs))
 
 pub lines_are_script : LinesAreScript
 lines_are_script script = (whole script, none script)

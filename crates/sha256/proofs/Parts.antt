@@ -53,7 +53,7 @@ absorbed_two r xs ys =
     let within : 64 * m ≤ length all = omega arith in
     let whole = append_assoc r.rest xs ys in
     let longer = length-append all ys in
-    let count-is : ((r.count + length xs) % 2 ^ 64 + length ys) % 2 ^ 64 ≡ (r.count + length (xs ++ ys)) % 2 ^ 64 = omega (arith, length-append xs ys) in
+    let count_is : ((r.count + length xs) % 2 ^ 64 + length ys) % 2 ^ 64 ≡ (r.count + length (xs ++ ys)) % 2 ^ 64 = omega (arith, length-append xs ys) in
     let blocks : length (r.rest ++ (xs ++ ys)) / 64 ≡ m + n = omega (arith, ap length whole, longer, length-append left ys, length-drop (64 * m) all) in
     let at : 64 * m + 64 * n ≡ 64 * (m + n) = omega arith in
     ap (λ s. absorbed s ys) (of_blocks r xs m refl)
@@ -62,7 +62,7 @@ absorbed_two r xs ys =
     (ap₂ (compressed_all n) (sym (all_front m r.hash all ys within)) (sym (drop-append-le (64 * m) all ys within))
     ∙ sym (all_add m n r.hash (all ++ ys)) ∙ ap (compressed_all (m + n) r.hash) whole)
     (ap (drop (64 * n)) (sym (drop-append-le (64 * m) all ys within)) ∙ drop-drop (64 * n) (64 * m) (all ++ ys) ∙ ap₂ drop at whole)
-    count-is
+    count_is
     ∙ sym (of_blocks r (xs ++ ys) (m + n) blocks)
 
 -- ---- the whole

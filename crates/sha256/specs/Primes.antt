@@ -1,5 +1,5 @@
 -- The constants of SHA-256, from roots of the first primes. Assumes nothing.
-use Rattle.std.specs.Prelude.{ℕ, zero, suc, ◌+◌, ◌-◌, ◌*◌, ◌%◌, ◌^◌, Bool, true, cond, not, ◌&&◌, leb, List, [], ◌∷◌, map, take, filter, ◌==◌, nat_le}
+use Rattle.std.specs.Prelude.{ℕ, zero, suc, ◌+◌, ◌-◌, ◌*◌, ◌%◌, ◌^◌, Bool, true, cond, not, ◌&&◌, List, [], ◌∷◌, map, take, filter, ◌==◌, nat_le}
 use Rattle.std.specs.List.{range_with_len}
 
 -- the test passes at each number of a list
@@ -26,10 +26,10 @@ greatest f (suc n) = raised f (2 ^ (36 - n)) (greatest f n)
 
 -- the greatest y with y³ ≤ x, and the greatest with y² ≤ x, where it is below 2 ^ 37
 unfoldable pub cube_root : ℕ → ℕ
-cube_root x = greatest (λ y. leb (y ^ 3) x) 37
+cube_root x = greatest (λ y. nat_le (y ^ 3) x) 37
 
 unfoldable pub square_root : ℕ → ℕ
-square_root x = greatest (λ y. leb (y ^ 2) x) 37
+square_root x = greatest (λ y. nat_le (y ^ 2) x) 37
 
 -- the first 32 bits of the fractions of the primes' cube roots
 unfoldable pub round_constants : List ℕ

@@ -1,6 +1,6 @@
 -- Tests over a range or a list, which antt computes, and what each tells of one number. Assumes nothing.
 use Rattle.std.proofs.Common.{◌≡◌, ℕ, zero, suc, ◌+◌, ◌-◌, ◌<◌, ◌≤◌, Bool, true, false, cond, ◌&&◌, List, [], ◌∷◌, length, get_or, filter, sym, refl, ap, ◌∙◌, subst, ⊎_elim, arith}
-use Rattle.std.specs.List.{range_with_len, AllByRecursion as All}
+use Rattle.std.specs.List.{range_with_len, AllByRecursion}
 use Rattle.std.proofs.ByRecursion.{all_kept_by}
 use Rattle.std.proofs.lemmas.Bool.{false≢true, both_ways, cases_eq, cond_both, cond-true, cond-false, and_parts, or_cases, or_left, or_right}
 use Rattle.sharing.specs.Groups.{some_of}
@@ -82,11 +82,11 @@ pub kept_all : (a n : ℕ) → filter (λ _. true) (range_with_len a n) ≡ rang
 kept_all a zero = refl
 kept_all a (suc n) = ap (λ l. a ∷ l) (kept_all (a + 1) n)
 
-from_low : (a b n : ℕ) → a ≤ b → All (λ x. a ≤ x) (range_with_len b n)
+from_low : (a b n : ℕ) → a ≤ b → AllByRecursion (λ x. a ≤ x) (range_with_len b n)
 from_low a b zero h = tt
 from_low a b (suc n) h = (h, from_low a (b + 1) n (omega arith))
 
-kept_low : (f : ℕ → Bool) (a n : ℕ) → All (λ x. a + 1 ≤ x) (filter f (range_with_len (a + 1) n))
+kept_low : (f : ℕ → Bool) (a n : ℕ) → AllByRecursion (λ x. a + 1 ≤ x) (filter f (range_with_len (a + 1) n))
 kept_low f a n = all_kept_by f (λ x. a + 1 ≤ x) (range_with_len (a + 1) n) (from_low (a + 1) (a + 1) n (omega arith))
 
 tail : List ℕ → List ℕ
@@ -94,7 +94,7 @@ tail [] = []
 tail (x ∷ xs) = xs
 
 not_first : (f g : ℕ → Bool) (a n : ℕ) → a ∷ filter f (range_with_len (a + 1) n) ≡ filter g (range_with_len (a + 1) n) → ⊥
-not_first f g a n e = let h = (subst (All (λ x. a + 1 ≤ x)) (sym e) (kept_low g a n)).0 in omega arith
+not_first f g a n e = let h = (subst (AllByRecursion (λ x. a + 1 ≤ x)) (sym e) (kept_low g a n)).0 in omega arith
 
 -- the first number is kept by both or neither, and so are the rest
 kept_first : (f g : ℕ → Bool) (a n : ℕ) (x y : Bool) → f a ≡ x → g a ≡ y → cond x (a ∷ filter f (range_with_len (a + 1) n)) (filter f (range_with_len (a + 1) n)) ≡ cond y (a ∷ filter g (range_with_len (a + 1) n)) (filter g (range_with_len (a + 1) n)) → (f a ≡ g a) × (filter f (range_with_len (a + 1) n) ≡ filter g (range_with_len (a + 1) n))

@@ -94,8 +94,8 @@ group_of_members n group few low =
 
 same_group : (n a b : ℕ) → n ≤ 8 → a < 2 ^ n → b < 2 ^ n → ((p : ℕ) → 1 ≤ p → p < 1 + n → member p a ≡ member p b) → a ≡ b
 unfolding GroupOfMembers
-same_group n a b few low-a low-b same =
-    sym (group_of_members n a few low-a) ∙ ap group_of (kept_same (λ p. member p a) (λ p. member p b) 1 n same) ∙ group_of_members n b few low-b
+same_group n a b few low_a low_b same =
+    sym (group_of_members n a few low_a) ∙ ap group_of (kept_same (λ p. member p a) (λ p. member p b) 1 n same) ∙ group_of_members n b few low_b
 
 same_test : (x y : Bool) → (x ≡ true → y ≡ true) → (y ≡ true → x ≡ true) → x ≡ y
 same_test true y f g = sym (f refl)
@@ -104,31 +104,31 @@ same_test false false f g = refl
 
 pub equal_shares_lem : EqualShares
 unfolding EqualShares EnoughHaveAll FewLackOne
-equal_shares_lem n t a b h low-a low-b = (forth, back)
+equal_shares_lem n t a b h low_a low_b = (forth, back)
   where
-    at-rank : group_ranks n t a ≡ group_ranks n t b → (rank : ℕ) → rank < shares n t → group_has n t a rank ≡ group_has n t b rank
-    at-rank e rank low = kept_tells (group_has n t a) (group_has n t b) 0 (shares n t) e rank (omega arith) (omega arith)
+    at_rank : group_ranks n t a ≡ group_ranks n t b → (rank : ℕ) → rank < shares n t → group_has n t a rank ≡ group_has n t b rank
+    at_rank e rank low = kept_tells (group_has n t a) (group_has n t b) 0 (shares n t) e rank (omega arith) (omega arith)
 
     apart : (x y : ℕ) → x < 2 ^ n → y < 2 ^ n → ones x < t → t ≤ ones y → ((rank : ℕ) → rank < shares n t → group_has n t x rank ≡ group_has n t y rank) → ⊥
-    apart x y low_x low-y few enough same =
+    apart x y low_x low_y few enough same =
         let lack = few_lack_one n t x h low_x few in
-        false≢true (sym lack.2 ∙ same lack.0 lack.1 ∙ enough_has n t y lack.0 h low-y enough lack.1)
+        false≢true (sym lack.2 ∙ same lack.0 lack.1 ∙ enough_has n t y lack.0 h low_y enough lack.1)
 
     both_small : ones a < t → ones b < t → ((rank : ℕ) → rank < shares n t → group_has n t a rank ≡ group_has n t b rank) → a ≡ b
-    both_small few-a few-b same =
-        same_group n a b (n_high n t h) low-a low-b
-        (λ p first last. same_test (member p a) (member p b) (has_only_own n t b a p h low-b few-b (λ rank low. sym (same rank low)) first last) (has_only_own n t a b p h low-a few-a same first last))
+    both_small few_a few_b same =
+        same_group n a b (n_high n t h) low_a low_b
+        (λ p first last. same_test (member p a) (member p b) (has_only_own n t b a p h low_b few_b (λ rank low. sym (same rank low)) first last) (has_only_own n t a b p h low_a few_a same first last))
 
     forth : group_ranks n t a ≡ group_ranks n t b → (a ≡ b) ⊎ ((t ≤ ones a) × (t ≤ ones b))
     forth e =
-        let same = at-rank e in
+        let same = at_rank e in
         ⊎_elim
-        (λ few-a. ⊎_elim (λ few-b. inl (both_small few-a few-b same)) (λ enough-b. absurd (apart a b low-a low-b few-a enough-b same)) (cases_lt (ones b) t))
-        (λ enough-a. ⊎_elim (λ few-b. absurd (apart b a low-b low-a few-b enough-a (λ rank low. sym (same rank low)))) (λ enough-b. inr (enough-a, enough-b)) (cases_lt (ones b) t))
+        (λ few_a. ⊎_elim (λ few_b. inl (both_small few_a few_b same)) (λ enough_b. absurd (apart a b low_a low_b few_a enough_b same)) (cases_lt (ones b) t))
+        (λ enough_a. ⊎_elim (λ few_b. absurd (apart b a low_b low_a few_b enough_a (λ rank low. sym (same rank low)))) (λ enough_b. inr (enough_a, enough_b)) (cases_lt (ones b) t))
         (cases_lt (ones a) t)
 
     back : (a ≡ b) ⊎ ((t ≤ ones a) × (t ≤ ones b)) → group_ranks n t a ≡ group_ranks n t b
-    back = ⊎_elim (ap (group_ranks n t)) (λ both. enough_have_all n t a h low-a both.0 ∙ sym (enough_have_all n t b h low-b both.1))
+    back = ⊎_elim (ap (group_ranks n t)) (λ both. enough_have_all n t a h low_a both.0 ∙ sym (enough_have_all n t b h low_b both.1))
 
 -- whoever decides the law's right side answers whether two groups hold equal shares
 pub equal_from : (n t a b : ℕ) → lawful n t ≡ true → (is_within n a && is_within n b) ≡ true → (r : Bool) → Decides r ((a ≡ b) ⊎ ((t ≤ ones a) × (t ≤ ones b))) → r ≡ equal_shares n t a b

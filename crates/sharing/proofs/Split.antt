@@ -19,9 +19,9 @@ falls_to_one n t quorum rank h is low =
     let test = λ (p : ℕ). member p quorum && unit_has n t p rank in
     let passes = first_passes test (places n) (enough_has n t quorum rank h below (omega arith) low) in
     let both = and_parts (member (falls_to n t quorum rank) quorum) _ passes in
-    let least = λ (i : ℕ) (in-quorum : member i quorum ≡ true) (has : unit_has n t i rank ≡ true).
-    let range = member_range n i quorum below in-quorum in
-    first_least test 1 n i range.0 range.1 (and_from (member i quorum) (unit_has n t i rank) in-quorum has) in (
+    let least = λ (i : ℕ) (in_quorum : member i quorum ≡ true) (has : unit_has n t i rank ≡ true).
+    let range = member_range n i quorum below in_quorum in
+    first_least test 1 n i range.0 range.1 (and_from (member i quorum) (unit_has n t i rank) in_quorum has) in (
       record { chosen = both.0; has = both.1; smallest = least },
       λ p falls.
           let up = falls.smallest (falls_to n t quorum rank) both.0 both.1 in
