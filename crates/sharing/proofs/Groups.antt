@@ -1,20 +1,22 @@
 -- Which groups have which ranks. One computed test for each fact over all groups, and the law of equal shares from them. Assumes nothing.
-use Rattle.std.proofs.Common.{◌≡◌, ℕ, ◌+◌, ◌^◌, ◌<◌, ◌≤◌, Bool, true, false, not, ◌&&◌, ◌||◌, eqb, ltb, leb, ◌⊎◌, List, length, Decides, sym, refl, ap, ◌∙◌, inl, inr, ⊎_elim, arith}
+use Rattle.std.proofs.Common.{◌≡◌, ℕ, ◌+◌, ◌^◌, ◌<◌, ◌≤◌, Bool, true, false, not, ◌&&◌, ◌||◌, cond, eqb, ltb, leb, ◌⊎◌, List, length, Decides, sym, refl, ap, ◌∙◌, inl, inr, ⊎_elim, arith}
 use lib.Count.{ones, ones_in}
-use Rattle.std.specs.Cmp.Lexicographic.{bytes_decides}
-use Rattle.std.proofs.lemmas.Bool.{false≢true, not-true, cases_lt, and_parts, and_from, or_cases, eqb-true, ltb-true, le-leb, lt-ltb}
+use Rattle.std.specs.List.{list_all, list_any}
+use Rattle.std.proofs.lemmas.Slice.Eq.{bytes_eq-Decides}
+use Rattle.std.proofs.lemmas.List.Sums.{AllPass-from_list_all}
+use Rattle.std.proofs.lemmas.Bool.{false≢true, cond-true, not-true, cases_lt, and_parts, and_from, or_cases, eqb-true, ltb-true, le-leb, lt-ltb}
 use Rattle.std.proofs.lemmas.Bool.Decides.{same_from_decides, Decides-like}
 use Rattle.sharing.specs.Choose.{choose}
 use Rattle.sharing.specs.Masks.{lawful, group_of, member, is_within, share_masks, shares, mask_of}
-use Rattle.sharing.specs.Groups.{some_of, places, members, group_has, group_ranks, equal_shares}
+use Rattle.sharing.specs.Groups.{places, ranks, members, group_has, group_ranks, equal_shares}
 use Rattle.sharing.specs.Laws.{GroupOfMembers, EnoughHaveAll, FewLackOne, EqualShares}
-use Rattle.sharing.proofs.Finite.{all_below, below_at, all_in, in_at, in_range, some_at, some_in, implies, implied, kept_same, kept_all, kept_tells}
+use Rattle.sharing.proofs.Finite.{all_below, below_at, in_range, some_at, some_in, kept_same, kept_all, kept_tells}
 use Rattle.sharing.proofs.Order.{length_masks}
 use Rattle.sharing.proofs.Schemes.{n_high, every_scheme, scheme_at}
 
 -- some place is in both
 abbrev meets : ℕ → ℕ → ℕ → Bool
-meets n group mask = some_of (λ p. member p group && member p mask) (places n)
+meets n group mask = list_any (λ p. member p group && member p mask) (places n)
 
 -- a test of each group below 2 ^ n, beside the share masks
 each_group : (ℕ → ℕ → List ℕ → ℕ → Bool) → ℕ → ℕ → Bool
@@ -25,10 +27,10 @@ unfolding each_group
 group_at f all n t group h low = below_at (f n t (share_masks n t)) (2 ^ n) group (scheme_at (each_group f) all n t h) low
 
 has_all : ℕ → ℕ → List ℕ → ℕ → Bool
-has_all n t ms group = implies (leb t (ones group)) (all_in (meets n group) ms)
+has_all n t ms group = cond (leb t (ones group)) (list_all (meets n group) ms) true
 
 all_passes : every_scheme (each_group has_all) ≡ true
-unfolding each_group has_all every_scheme all_below all_in some_of choose share_masks ones ones_in
+unfolding each_group has_all every_scheme all_below choose share_masks ones ones_in
 all_passes = refl
 
 -- the ranks are as many as the masks
@@ -38,33 +40,33 @@ below_length n t rank h low = omega (arith, length_masks n t h)
 pub enough_has : (n t group rank : ℕ) → lawful n t ≡ true → group < 2 ^ n → t ≤ ones group → rank < shares n t → group_has n t group rank ≡ true
 unfolding has_all
 enough_has n t group rank h low enough is =
-    in_at (meets n group) (share_masks n t) rank (implied (leb t (ones group)) _ (group_at has_all all_passes n t group h low) (le-leb t (ones group) enough)) (below_length n t rank h is)
+    AllPass-from_list_all (meets n group) (share_masks n t) (sym (cond-true _ _ _ (le-leb t (ones group) enough)) ∙ group_at has_all all_passes n t group h low) rank 0 (below_length n t rank h is)
 
 pub enough_have_all : EnoughHaveAll
 unfolding EnoughHaveAll
 enough_have_all n t group h low enough =
-    kept_same (group_has n t group) (λ _. true) 0 (shares n t) (λ rank _ high. enough_has n t group rank h low enough (omega arith)) ∙ kept_all 0 (shares n t)
+    kept_same (group_has n t group) (λ _. true) 0 (shares n t) (λ rank _ high. enough_has n t group rank h low enough (omega arith)) ∙ kept_all (ranks n t)
 
 lacks_one : ℕ → ℕ → List ℕ → ℕ → Bool
-lacks_one n t ms group = implies (ltb (ones group) t) (some_of (λ mask. not (meets n group mask)) ms)
+lacks_one n t ms group = cond (ltb (ones group) t) (list_any (λ mask. not (meets n group mask)) ms) true
 
 one_passes : every_scheme (each_group lacks_one) ≡ true
-unfolding each_group lacks_one every_scheme all_below some_of choose share_masks ones ones_in
+unfolding each_group lacks_one every_scheme all_below choose share_masks ones ones_in
 one_passes = refl
 
 pub few_lack_one : FewLackOne
 unfolding FewLackOne lacks_one
 few_lack_one n t group h low few =
-    let at = some_at (λ mask. not (meets n group mask)) (share_masks n t) (implied (ltb (ones group) t) _ (group_at lacks_one one_passes n t group h low) (lt-ltb (ones group) t few)) in
+    let at = some_at (λ mask. not (meets n group mask)) (share_masks n t) (sym (cond-true _ _ _ (lt-ltb (ones group) t few)) ∙ group_at lacks_one one_passes n t group h low) in
     (at.0, omega (arith, at.1, length_masks n t h), not-true (group_has n t group at.0) at.2)
 
 -- of each place outside a small group, some mask has it and none of the group
 lacks_other : ℕ → ℕ → List ℕ → ℕ → Bool
 lacks_other n t ms group =
-    implies (ltb (ones group) t) (all_in (λ p. member p group || some_of (λ mask. member p mask && not (meets n group mask)) ms) (places n))
+    cond (ltb (ones group) t) (list_all (λ p. member p group || list_any (λ mask. member p mask && not (meets n group mask)) ms) (places n)) true
 
 other_passes : every_scheme (each_group lacks_other) ≡ true
-unfolding each_group lacks_other every_scheme all_below all_in some_of choose share_masks ones ones_in
+unfolding each_group lacks_other every_scheme all_below choose share_masks ones ones_in
 other_passes = refl
 
 -- the place of a unit whose ranks a small group has is in the group
@@ -72,7 +74,7 @@ has_only_own : (n t a b p : ℕ) → lawful n t ≡ true → a < 2 ^ n → ones 
 unfolding lacks_other
 has_only_own n t a b p h low few same first last is =
     let test = λ (mask : ℕ). member p mask && not (meets n a mask) in
-    let tests = in_range (λ q. member q a || some_of (λ mask. member q mask && not (meets n a mask)) (share_masks n t)) 1 n p (implied (ltb (ones a) t) _ (group_at lacks_other other_passes n t a h low) (lt-ltb (ones a) t few)) first last in
+    let tests = in_range (λ q. member q a || list_any (λ mask. member q mask && not (meets n a mask)) (share_masks n t)) 1 n p first last (sym (cond-true _ _ _ (lt-ltb (ones a) t few)) ∙ group_at lacks_other other_passes n t a h low) in
     ⊎_elim (λ own. own)
     (λ some.
     let at = some_at test (share_masks n t) some in
@@ -136,4 +138,4 @@ unfolding EqualShares
 equal_from n t a b h within r decides =
     let lows = and_parts (is_within n a) (is_within n b) within in
     let law = equal_shares_lem n t a b h (ltb-true a (2 ^ n) lows.0) (ltb-true b (2 ^ n) lows.1) in
-    same_from_decides r (equal_shares n t a b) (Decides-like r law.1 law.0 decides) (bytes_decides (group_ranks n t a) (group_ranks n t b))
+    same_from_decides r (equal_shares n t a b) (Decides-like r law.1 law.0 decides) (bytes_eq-Decides (group_ranks n t a) (group_ranks n t b))

@@ -1,3 +1,4 @@
+pub mod Inclusive
 pub mod Finite
 pub mod Binomials
 pub mod Schemes

@@ -1,7 +1,7 @@
 -- The places of a group within n. Assumes nothing.
-use Rattle.std.proofs.Common.{◌≡◌, ℕ, ◌+◌, ◌-◌, ◌^◌, ◌<◌, ◌≤◌, true, false, leb, sym, ap, ◌∙◌, ⊎_elim, one-mul, arith, pow_mono}
+use Rattle.std.proofs.Common.{◌≡◌, ℕ, ◌+◌, ◌-◌, ◌^◌, ◌<◌, ◌≤◌, true, false, leb, ◌⊎◌, sym, ap, ◌∙◌, ⊎_elim, one-mul, arith, pow_mono}
 use lib.Bits.{bit_and, and_comm, and_shifted}
-use Rattle.std.proofs.lemmas.Bool.{both_ways, cases_lt, and_parts, and_right, leb-true, eq-eqb, not_from_true}
+use Rattle.std.proofs.lemmas.Bool.{both_ways, cases_lt, and_parts, and_left, and_right, lt-leb, leb-true, eq-eqb, not_from_true}
 use Rattle.sharing.specs.Masks.{member}
 
 -- a place above n is in no group within n
@@ -17,3 +17,7 @@ member_range n p group low is = (
   leb-true 1 p (and_parts (leb 1 p) _ is).0,
   ⊎_elim (λ past. absurd (both_ways (member p group) (past_group n p group low past) is)) (λ within. omega arith) (cases_lt n p),
 )
+
+-- the same of a byte, and of the place 0
+pub past_byte : (p group : ℕ) → group < 256 → (p < 1) ⊎ (8 < p) → member p group ≡ false
+past_byte p group byte = ⊎_elim (λ low. and_left (leb 1 p) _ (lt-leb 1 p low)) (past_group 8 p group byte)

@@ -1,14 +1,14 @@
 -- A test over every lawful number of units and threshold. Assumes nothing.
-use Rattle.std.proofs.Common.{◌≡◌, ℕ, ◌≤◌, Bool, true, cond, ◌&&◌, leb, arith}
-use Rattle.std.proofs.lemmas.Bool.{and_parts, leb-true}
+use Rattle.std.proofs.Common.{◌≡◌, ℕ, ◌≤◌, Bool, true, cond, ◌∙◌, sym, arith, rules, tests}
+use Rattle.std.proofs.lemmas.Bool.{cond-true}
 use Rattle.sharing.specs.Masks.{lawful}
 use Rattle.sharing.proofs.Finite.{all_below, below_at}
 
 pub t_high : (n t : ℕ) → lawful n t ≡ true → t ≤ n
-t_high n t h = leb-true t n (and_parts (leb t n) (leb n 8) (and_parts (leb 2 t) (leb t n && leb n 8) h).1).0
+t_high n t h = search (rules, tests)
 
 pub n_high : (n t : ℕ) → lawful n t ≡ true → n ≤ 8
-n_high n t h = leb-true n 8 (and_parts (leb t n) (leb n 8) (and_parts (leb 2 t) (leb t n && leb n 8) h).1).1
+n_high n t h = search (rules, tests)
 
 abbrev pub at_lawful : (ℕ → ℕ → Bool) → ℕ → ℕ → Bool
 at_lawful f n t = cond (lawful n t) (f n t) true
@@ -21,5 +21,4 @@ unfolding every_scheme
 scheme_at f all n t h =
     let high = n_high n t h in
     let low = t_high n t h in
-    let at : at_lawful f n t ≡ true = below_at (at_lawful f n) 9 t (below_at (λ m. all_below (at_lawful f m) 9) 9 n all (omega arith)) (omega arith) in
-    rw h at at
+    sym (cond-true (lawful n t) (f n t) true h) ∙ below_at (at_lawful f n) 9 t (below_at (λ m. all_below (at_lawful f m) 9) 9 n all (omega arith)) (omega arith)

@@ -2,13 +2,12 @@
 use Rattle.std.proofs.Common.{refl}
 use lib.Count.{ones, ones_in}
 use Rattle.sharing.specs.Choose.{choose}
-use Rattle.sharing.specs.Masks.{share_masks, position}
-use Rattle.sharing.specs.Groups.{some_of}
-use Rattle.sharing.specs.Split.{first_of}
+use Rattle.sharing.specs.Masks.{share_masks}
+use Rattle.sharing.specs.Split.{first_common}
 use Rattle.sharing.specs.Examples.{Examples}
 
 pub examples : Examples
-unfolding choose share_masks position some_of first_of ones ones_in
+unfolding choose share_masks first_common ones ones_in
 examples = record {
   shares_of_five = refl;
   shares_of_eight = refl;

@@ -1,5 +1,6 @@
 -- What each call answers, at every input. Assumes nothing.
-use Rattle.std.specs.Prelude.{ℕ, ◌*◌, Bool, cond, ◌&&◌, Some, None, Ok, Err, Option, Result, nat_le, nat_lt}
+use Rattle.std.specs.Prelude.{ℕ, ◌*◌, Bool, cond, ◌&&◌, Ok, Err, Option, Result, nat_le, nat_lt}
+use Rattle.std.specs.Bool.{then_some}
 use Rattle.sharing.specs.Choose.{choose}
 use Rattle.sharing.specs.Masks.{lawful, is_within, is_share_mask, shares, mask_of, rank_of}
 use Rattle.sharing.specs.Groups.{unit_has, equal_shares}
@@ -27,7 +28,7 @@ rank_answer n t mask = provided (is_share_mask n t mask) (rank_of n t mask) Mask
 
 -- where a unit's share of a rank begins in a dealing, 16 bytes for each rank by rising rank
 abbrev pub share_at : ℕ → ℕ → ℕ → ℕ → Option ℕ
-share_at n t p rank = cond (unit_has n t p rank) (Some (16 * rank)) None
+share_at n t p rank = then_some (unit_has n t p rank) (16 * rank)
 
 abbrev pub falls_answer : ℕ → ℕ → ℕ → ℕ → Result ℕ Refusal
 falls_answer n t q rank = cond (is_quorum n t q) (provided (nat_lt rank (shares n t)) (falls_to n t q rank) Rank) (Err Quorum)

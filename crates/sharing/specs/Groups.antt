@@ -1,17 +1,12 @@
 -- Which ranks a unit and a group have. Assumes nothing.
-use Rattle.std.specs.Prelude.{ℕ, Bool, false, ◌&&◌, ◌||◌, List, [], ◌∷◌, filter}
-use Rattle.std.specs.List.{range_with_len}
+use Rattle.std.specs.Prelude.{ℕ, Bool, ◌&&◌, List, filter}
+use Rattle.std.specs.List.{range_with_len, list_any}
 use Rattle.std.specs.Str.{bytes_eq as same_list}
 use Rattle.sharing.specs.Masks.{member, shares, mask_of}
 
 -- a unit has the share of a rank if its place is in that rank's mask
 abbrev pub unit_has : ℕ → ℕ → ℕ → ℕ → Bool
 unit_has n t p rank = member p (mask_of n t rank)
-
--- the test passes somewhere in the list
-unfoldable pub some_of : (ℕ → Bool) → List ℕ → Bool
-some_of f [] = false
-some_of f (x ∷ xs) = f x || some_of f xs
 
 -- the places 1 to n
 abbrev pub places : ℕ → List ℕ
@@ -23,7 +18,7 @@ ranks n t = range_with_len 0 (shares n t)
 
 -- a group has a rank if one of its units has it
 abbrev pub group_has : ℕ → ℕ → ℕ → ℕ → Bool
-group_has n t group rank = some_of (λ p. member p group && unit_has n t p rank) (places n)
+group_has n t group rank = list_any (λ p. member p group && unit_has n t p rank) (places n)
 
 -- the places of a group within n
 abbrev pub members : ℕ → ℕ → List ℕ

@@ -1,6 +1,6 @@
 -- Which numbers of units and thresholds there are, the share masks and their ranks. Assumes nothing.
-use Rattle.std.specs.Prelude.{ℕ, suc, ◌+◌, ◌-◌, ◌^◌, Bool, cond, not, ◌&&◌, List, [], ◌∷◌, sum_by, filter, ◌==◌, bit_and, count_ones, nat_le, nat_lt, slice_index}
-use Rattle.std.specs.List.{range_with_len}
+use Rattle.std.specs.Prelude.{ℕ, ◌+◌, ◌-◌, ◌^◌, Bool, not, ◌&&◌, List, sum_by, filter, ◌==◌, bit_and, count_ones, nat_le, nat_lt, slice_index}
+use Rattle.std.specs.List.{range_with_len, position_or_len, zip}
 use Rattle.sharing.specs.Choose.{choose}
 
 -- n units with threshold t can be dealt to
@@ -19,9 +19,13 @@ member p group = nat_le 1 p && not (bit_and group (2 ^ (p - 1)) == 0)
 abbrev pub is_within : ℕ → ℕ → Bool
 is_within n group = nat_lt group (2 ^ n)
 
+-- exactly `size` places, all of them within n
+abbrev pub is_group_of : ℕ → ℕ → ℕ → Bool
+is_group_of size n group = is_within n group && count_ones group == size
+
 -- a mask below 2 ^ n with exactly n - t + 1 ones
 abbrev pub is_share_mask : ℕ → ℕ → ℕ → Bool
-is_share_mask n t mask = is_within n mask && count_ones mask == n - t + 1
+is_share_mask n t = is_group_of (n - t + 1) n
 
 -- the share masks in increasing order
 unfoldable pub share_masks : ℕ → ℕ → List ℕ
@@ -35,24 +39,14 @@ shares n t = choose n (t - 1)
 abbrev pub mask_of : ℕ → ℕ → ℕ → ℕ
 mask_of n t rank = slice_index (share_masks n t) rank
 
--- where x stands first in a list, counted from 0
-unfoldable pub position : ℕ → List ℕ → ℕ
-position x [] = 0
-position x (y ∷ ys) = cond (x == y) 0 (suc (position x ys))
-
--- the rank of a mask
+-- the rank of a mask: where it stands among the share masks, counted from 0
 abbrev pub rank_of : ℕ → ℕ → ℕ → ℕ
-rank_of n t mask = position mask (share_masks n t)
+rank_of n t mask = position_or_len (λ m. mask == m) (share_masks n t)
 
 -- the bits p1 < p2 < .. at which a mask of eight bits has its ones
-abbrev pub bits_of : ℕ → List ℕ
+unfoldable pub bits_of : ℕ → List ℕ
 bits_of mask = filter (λ p. member (p + 1) mask) (range_with_len 0 8)
 
--- C(p1, k) + C(p2, k + 1) + ..
-unfoldable pub choose_sum : ℕ → List ℕ → ℕ
-choose_sum k [] = 0
-choose_sum k (p ∷ ps) = choose p k + choose_sum (k + 1) ps
-
 -- C(p1, 1) + C(p2, 2) + .. over a mask's ones
-abbrev pub rank_sum : ℕ → ℕ
-rank_sum mask = choose_sum 1 (bits_of mask)
+unfoldable pub rank_sum : ℕ → ℕ
+rank_sum mask = sum_by (λ p. choose p.0 p.1) (zip (bits_of mask) (range_with_len 1 8))

@@ -1,20 +1,19 @@
 -- Quorums, and to whom a rank falls in one. Assumes nothing.
-use Rattle.std.specs.Prelude.{ℕ, Bool, cond, ◌&&◌, List, [], ◌∷◌, filter, ◌==◌, count_ones, nat_eq}
-use Rattle.sharing.specs.Masks.{member, is_within}
-use Rattle.sharing.specs.Groups.{unit_has, places, ranks}
+use Rattle.std.specs.Prelude.{ℕ, Bool, ◌&&◌, Option, unwrap_or, List, filter, find, nat_eq}
+use Rattle.sharing.specs.Masks.{member, is_group_of, mask_of}
+use Rattle.sharing.specs.Groups.{places, ranks}
 
 -- exactly t places within n
 abbrev pub is_quorum : ℕ → ℕ → ℕ → Bool
-is_quorum n t q = is_within n q && count_ones q == t
+is_quorum n t = is_group_of t n
 
--- the first of a list that passes the test, else 0
-unfoldable pub first_of : (ℕ → Bool) → List ℕ → ℕ
-first_of f [] = 0
-first_of f (x ∷ xs) = cond (f x) x (first_of f xs)
+-- the smallest place of 1 to n that is in both groups
+unfoldable pub first_common : ℕ → ℕ → ℕ → Option ℕ
+first_common n a b = find (λ p. member p a && member p b) (places n)
 
--- the smallest place that is both in the quorum and in the rank's mask
+-- the smallest place that is both in the quorum and in the rank's mask, or 0 where there is none
 abbrev pub falls_to : ℕ → ℕ → ℕ → ℕ → ℕ
-falls_to n t q rank = first_of (λ p. member p q && unit_has n t p rank) (places n)
+falls_to n t q rank = unwrap_or (first_common n q (mask_of n t rank)) 0
 
 -- the ranks that fall to place p
 abbrev pub falling_to : ℕ → ℕ → ℕ → ℕ → List ℕ

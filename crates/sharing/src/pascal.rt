@@ -18,6 +18,7 @@ const TRIANGLE: [[u8; 9]; 9] = [
 ];
 
 /// The number of ways to choose `b` of `a` things, for at most 8 things.
+#[tactic(auto, using(crate::proofs::Binomials::choose_past))]
 pub fn binomial(a: u8, b: u8) -> Result<u8, Refusal>
     ensures { result ≡ chosen_answer a b }
 {
@@ -34,7 +35,7 @@ pub(crate) fn choose_of(a: u8, b: u8) -> u8
     requires { (a ≤ 8) × (b ≤ 8) }
     ensures { result ≡ choose a b }
 {
-    entry(&TRIANGLE, a as usize, b as usize)
+    entry(&TRIANGLE, usize::from(a), usize::from(b))
 }
 
 // The table is an argument, so that its rule is one fact about all of it.

@@ -1,48 +1,38 @@
-use Rattle.std.proofs.Common.{◌≡◌, ◌^◌, ◌<◌, sym, refl, ◌∙◌, arith}
-use Rattle.sharing.specs.Masks.{share_masks}
-use Rattle.sharing.proofs.Order.{mask_fits, filled_none, sofar_yes, sofar_no, range_end, mask_low, is_mask, not_mask}
+use Rattle.std.proofs.Common.{◌≡◌, ◌<◌, length, get_or, rules, tests, arith}
+use Rattle.std.proofs.lemmas.Iterator.Consumers.{YieldsList-at, YieldsList-from_filter, YieldsList-from_enumerate, YieldsList-turn, YieldsList-end}
+use Rattle.std.proofs.lemmas.List.{length_push}
+use Rattle.sharing.specs.Masks.{is_share_mask, share_masks}
+use Rattle.sharing.proofs.Inclusive.{YieldsList-from_inclusive}
+use Rattle.sharing.proofs.Order.{shares_few, from_bytes, length_masks, filled_none, filled_more, filled_all, pair_at, pairs_are}
 use Rattle.sharing.proofs.scheme.share_masks.Goals as goal
-use Rattle.sharing.proofs.scheme.share_masks.Goals.{Then-mask-size, then-mask-size, else-mask-size}
 
-pub loop-mask-init : goal.loop-mask-init
-loop-mask-init c = (refl, refl, filled_none 70)
+pub loop-rank-init : goal.loop-rank-init
+loop-rank-init c = filled_none (share_masks c.args.n c.args.t)
 
-room : (c : Then-mask-size) → c.loop-mask.count < 70
-room c =
-    let n = c.args.n in
-    let t = c.args.t in
-    let mask = c.loop-mask.mask in
-    let below = c.loop-mask-test.true in
-    rw c.loop-mask.invariant.1
-    (mask_fits n t mask c.requires (mask_low n t mask c.requires below) (is_mask n t mask c.requires below (c.if-mask-size.true ∙ c.from-size.ensures)))
+-- the next rank and its mask
+turn : (c : goal.In-Some) → (length c.loop-rank.yielded < length (share_masks c.args.n c.args.t)) × (c.in-Some.rank ≡ length c.loop-rank.yielded) × (c.in-Some.mask ≡ get_or (share_masks c.args.n c.args.t) (length c.loop-rank.yielded) 0)
+turn c =
+    let at = YieldsList-turn (YieldsList-at c.into_iter-rank-iterator.ensures.into_iter_gives (YieldsList-from_enumerate (YieldsList-at c.enumerate-rank-items.ensures.source (YieldsList-from_filter _ (is_share_mask c.args.n c.args.t) (YieldsList-at c.filter.ensures.source (YieldsList-from_inclusive 0 256 c.new.ensures.start (omega arith) c.new.ensures.exhausted)) c.filter.ensures.closure (λ x b q k. search (rules, tests)))) c.enumerate-rank-items.ensures.count))
+    c.loop-rank.yielded _ c.loop-rank.yielded_by _ _ (c.in-Some.rank, c.in-Some.mask) c.in-Some.is c.next.ensures.steps in
+    pair_at _ (share_masks c.args.n c.args.t) _ _ _ (from_bytes c.args.n c.args.t c.requires) at
 
-pub bounds-masks-count : goal.bounds-masks-count
-bounds-masks-count c = room c
+-- its place is in the table
+low : (c : goal.In-Some) → c.in-Some.rank < 70
+low c = omega (arith, turn c, length_masks c.args.n c.args.t c.requires, shares_few c.args.n c.args.t c.requires)
 
-pub overflow_add-count : goal.overflow_add-count
-overflow_add-count c = record { fits = omega (arith, room c) }
+pub bounds-masks-rank : goal.bounds-masks-rank
+bounds-masks-rank c = low c
 
-pub loop-mask-preserved : goal.loop-mask-preserved
-loop-mask-preserved c =
-    let n = c.args.n in
-    let t = c.args.t in
-    let mask = c.loop-mask.mask in
-    let count = c.loop-mask.count in
-    let masks = c.loop-mask.masks in
-    let low = mask_low n t mask c.requires c.loop-mask-test.true in
-    elim c.if-mask-size.branch [
-      | then-mask-size w ↦
-          let is = is_mask n t mask c.requires c.loop-mask-test.true (w.if-mask-size.true ∙ c.from-size.ensures) in
-          let room : count < 70 = rw c.loop-mask.invariant.1 (mask_fits n t mask c.requires low is) in
-          rw (w.masks-is, w.count-is) (sofar_yes n t mask count masks c.loop-mask.invariant mask refl room is)
-      | else-mask-size w ↦
-          let no = not_mask n t mask c.requires c.loop-mask-test.true (λ e. w.if-mask-size.false (e ∙ sym c.from-size.ensures)) in
-          rw (w.masks-is, w.count-is) (sofar_no n t mask count masks c.loop-mask.invariant no)
-    ]
+pub loop-rank-preserved : goal.loop-rank-preserved
+loop-rank-preserved c =
+    let t = turn c in
+    let low' = low c in
+    let more = length_push c.loop-rank.yielded (c.in-Some.rank, c.in-Some.mask) in
+    rw (more, t.1) (filled_more c.loop-rank.masks (share_masks c.args.n c.args.t) (length c.loop-rank.yielded) c.in-Some.mask t.0 (omega (arith, t, low')) t.2 c.loop-rank.invariant)
 
-pub returns : goal.returns
-unfolding share_masks
-returns c =
-    let n = c.args.n in
-    let done : c.loop-mask.mask ≡ 2 ^ n = omega (arith, range_end n c.args.t c.requires) in
-    record { room = c.loop-mask.invariant.0; ordered = rw done at c.loop-mask.invariant.2 }
+pub returns-clause-ordered : goal.returns-clause-ordered
+returns-clause-ordered c =
+    let end = YieldsList-end (YieldsList-at c.into_iter-rank-iterator.ensures.into_iter_gives (YieldsList-from_enumerate (YieldsList-at c.enumerate-rank-items.ensures.source (YieldsList-from_filter _ (is_share_mask c.args.n c.args.t) (YieldsList-at c.filter.ensures.source (YieldsList-from_inclusive 0 256 c.new.ensures.start (omega arith) c.new.ensures.exhausted)) c.filter.ensures.closure (λ x b q k. search (rules, tests)))) c.enumerate-rank-items.ensures.count))
+    c.loop-rank.yielded _ c.loop-rank.yielded_by _ _ c.in-None.is c.next.ensures.steps in
+    let masks = share_masks c.args.n c.args.t in
+    filled_all c.loop-rank.masks masks (length c.loop-rank.yielded) (omega (arith, pairs_are _ masks _ (from_bytes c.args.n c.args.t c.requires) end.1)) c.loop-rank.invariant

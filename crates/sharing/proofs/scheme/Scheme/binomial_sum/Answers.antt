@@ -1,34 +1,33 @@
-use Rattle.std.proofs.Common.{◌≡◌, sym, arith}
-use Rattle.sharing.specs.Masks.{rank_sum}
-use Rattle.sharing.proofs.Ranks.{come_yes, come_no, come_none, come_all, sum_few, sum_is_rank}
+use Rattle.std.proofs.Common.{◌+◌, ◌∙◌, sym, refl, rules, tests, arith}
+use Rattle.std.proofs.lemmas.Iterator.{YieldsList-from_range, YieldsList-from_zip, YieldsList-from_map, serves_from_Range}
+use Rattle.std.proofs.lemmas.Iterator.Consumers.{YieldsList-at, YieldsList-from_filter, sum_by_from_yields_List, fits_by_from_yields_list}
+use Rattle.std.proofs.lemmas.Iterator.Adapters.{serves_from_places}
+use Rattle.sharing.specs.Choose.{choose}
+use Rattle.sharing.specs.Masks.{member, bits_of, rank_sum}
+use Rattle.sharing.specs.Laws.{RankIsSum}
+use Rattle.sharing.proofs.Inclusive.{YieldsList-from_inclusive}
+use Rattle.sharing.proofs.Ranks.{pairs, pair_low, rank_is_sum, sum_few}
 use Rattle.sharing.proofs.scheme.Scheme.binomial_sum.Goals as goal
-use Rattle.sharing.proofs.scheme.Scheme.binomial_sum.Goals.{then-is_member, else-is_member}
 
-pub loop-bit-init : goal.loop-bit-init
-loop-bit-init c = (omega arith, omega (arith, come_all c.args.mask))
+pub sum-requires-clause-can : goal.sum-requires-clause-can
+unfolding bits_of
+sum-requires-clause-can c = (
+  ((tt, tt, serves_from_Range (λ x q k. search rules) (λ x low high. search rules)), tt),
+  serves_from_places
+      (YieldsList-at c.map.ensures.source (YieldsList-from_zip (YieldsList-at c.zip.ensures.first (YieldsList-from_filter _ (λ p. member (p + 1) c.args.mask) (YieldsList-at c.filter.ensures.source (YieldsList-from_range 0 8 8 refl refl)) c.filter.ensures.closure (λ x b q k. search (rules, tests)))) (YieldsList-at c.zip.ensures.second (YieldsList-from_inclusive 1 8 c.new.ensures.start (omega (arith, c.new.ensures.end)) c.new.ensures.exhausted))))
+      (λ x q k. search rules)
+      (λ p k inside at. let low = pair_low c.args.mask k p c.ranges.mask.fits inside at in search rules),
+)
 
-pub overflow_add-sum : goal.overflow_add-sum
-overflow_add-sum c =
+pub sum-requires-clause-fits : goal.sum-requires-clause-fits
+unfolding rank_sum bits_of
+sum-requires-clause-fits c =
     let scheme = c.args.self.now in
-    let more = come_yes c.args.mask c.loop-bit.ones c.loop-bit.bit c.loop-bit-test.true (sym c.if-is_member.ensures) in
     let few = sum_few scheme.n scheme.t c.args.mask scheme.allowed c.requires in
-    record { fits = omega (arith, more, few, c.loop-bit.invariant.1, c.choose_of-sum.ensures) }
-
-pub loop-bit-preserved : goal.loop-bit-preserved
-loop-bit-preserved c =
-    let mask = c.args.mask in
-    let ones = c.loop-bit.ones in
-    let bit = c.loop-bit.bit in
-    elim c.if-is_member.branch [
-      | then-is_member w ↦
-          let more = come_yes mask ones bit c.loop-bit-test.true (sym w.if-is_member.ensures) in
-          rw (w.sum-is, w.ones-is) (omega arith, omega (arith, more, w.choose_of-sum.ensures))
-      | else-is_member w ↦
-          let more = come_no mask ones bit c.loop-bit-test.true (sym w.if-is_member.ensures) in
-          rw (w.sum-is, w.ones-is) (omega arith, omega (arith, more))
-    ]
+    fits_by_from_yields_list (λ p. choose p.0 p.1) (pairs c.args.mask) c.map.result 256 (YieldsList-from_map _ (λ p. choose p.0 p.1) (YieldsList-at c.map.ensures.source (YieldsList-from_zip (YieldsList-at c.zip.ensures.first (YieldsList-from_filter _ (λ p. member (p + 1) c.args.mask) (YieldsList-at c.filter.ensures.source (YieldsList-from_range 0 8 8 refl refl)) c.filter.ensures.closure (λ x b q k. search (rules, tests)))) (YieldsList-at c.zip.ensures.second (YieldsList-from_inclusive 1 8 c.new.ensures.start (omega (arith, c.new.ensures.end)) c.new.ensures.exhausted)))) c.map.ensures.closure (λ x r q k. search rules)) (omega arith)
 
 pub returns : goal.returns
+unfolding RankIsSum rank_sum bits_of
 returns c =
-    let sum : c.loop-bit.sum ≡ rank_sum c.args.mask = omega (arith, come_none c.args.mask c.loop-bit.ones c.loop-bit.bit (omega arith), c.loop-bit.invariant.1) in
-    sum_is_rank _ _ _ _ c.args.self.now.allowed c.requires sum
+    let scheme = c.args.self.now in
+    sum_by_from_yields_List (λ p. choose p.0 p.1) (pairs c.args.mask) c.map.result c.sum.result c.sum.ensures.ran (YieldsList-from_map _ (λ p. choose p.0 p.1) (YieldsList-at c.map.ensures.source (YieldsList-from_zip (YieldsList-at c.zip.ensures.first (YieldsList-from_filter _ (λ p. member (p + 1) c.args.mask) (YieldsList-at c.filter.ensures.source (YieldsList-from_range 0 8 8 refl refl)) c.filter.ensures.closure (λ x b q k. search (rules, tests)))) (YieldsList-at c.zip.ensures.second (YieldsList-from_inclusive 1 8 c.new.ensures.start (omega (arith, c.new.ensures.end)) c.new.ensures.exhausted)))) c.map.ensures.closure (λ x r q k. search rules)) ∙ sym (rank_is_sum scheme.n scheme.t c.args.mask scheme.allowed c.requires)
