@@ -1,10 +1,10 @@
 -- Which groups have which ranks. One computed test for each fact over all groups, and the law of equal shares from them. Assumes nothing.
-use Rattle.std.proofs.Common.{◌≡◌, ℕ, ◌+◌, ◌^◌, ◌<◌, ◌≤◌, Bool, true, false, not, ◌&&◌, ◌||◌, cond, eqb, ltb, leb, ◌⊎◌, List, length, Decides, sym, refl, ap, ◌∙◌, inl, inr, ⊎_elim, arith}
+use Rattle.std.proofs.Common.{◌≡◌, ℕ, ◌+◌, ◌^◌, ◌<◌, ◌≤◌, Bool, true, false, not, ◌&&◌, ◌||◌, eqb, ltb, leb, ◌⊎◌, List, length, Decides, sym, refl, ap, ◌∙◌, inl, inr, ⊎_elim, arith}
 use lib.Count.{ones, ones_in}
 use Rattle.std.specs.List.{list_all, list_any}
 use Rattle.std.proofs.lemmas.Slice.Eq.{bytes_eq-Decides}
 use Rattle.std.proofs.lemmas.List.Sums.{AllPass-from_list_all}
-use Rattle.std.proofs.lemmas.Bool.{false≢true, cond-true, not-true, cases_lt, and_parts, and_from, or_cases, eqb-true, ltb-true, le-leb, lt-ltb}
+use Rattle.std.proofs.lemmas.Bool.{false≢true, false_from_ne_true, not-true, cases_lt, and_parts, and_from, or_cases, eqb-true, ltb-true, le-leb, lt-ltb}
 use Rattle.std.proofs.lemmas.Bool.Decides.{same_from_decides, Decides-like}
 use Rattle.sharing.specs.Choose.{choose}
 use Rattle.sharing.specs.Masks.{lawful, group_of, member, is_within, share_masks, shares, mask_of}
@@ -12,25 +12,24 @@ use Rattle.sharing.specs.Groups.{places, ranks, members, group_has, group_ranks,
 use Rattle.sharing.specs.Laws.{GroupOfMembers, EnoughHaveAll, FewLackOne, EqualShares}
 use Rattle.sharing.proofs.Finite.{all_below, below_at, in_range, some_at, some_in, kept_same, kept_all, kept_tells}
 use Rattle.sharing.proofs.Order.{length_masks}
-use Rattle.sharing.proofs.Schemes.{n_high, every_scheme, scheme_at}
+use Rattle.sharing.proofs.Schemes.{n_high, every_scheme, each_group, group_at}
 
 -- some place is in both
 abbrev meets : ℕ → ℕ → ℕ → Bool
 meets n group mask = list_any (λ p. member p group && member p mask) (places n)
 
--- a test of each group below 2 ^ n, beside the share masks
-each_group : (ℕ → ℕ → List ℕ → ℕ → Bool) → ℕ → ℕ → Bool
-each_group f n t = all_below (f n t (share_masks n t)) (2 ^ n)
+-- at least t places, and fewer
+enough : ℕ → ℕ → ℕ → Bool
+enough n t group = leb t (ones group)
 
-group_at : (f : ℕ → ℕ → List ℕ → ℕ → Bool) → every_scheme (each_group f) ≡ true → (n t group : ℕ) → lawful n t ≡ true → group < 2 ^ n → f n t (share_masks n t) group ≡ true
-unfolding each_group
-group_at f all n t group h low = below_at (f n t (share_masks n t)) (2 ^ n) group (scheme_at (each_group f) all n t h) low
+few : ℕ → ℕ → ℕ → Bool
+few n t group = ltb (ones group) t
 
 has_all : ℕ → ℕ → List ℕ → ℕ → Bool
-has_all n t ms group = cond (leb t (ones group)) (list_all (meets n group) ms) true
+has_all n t ms group = list_all (meets n group) ms
 
-all_passes : every_scheme (each_group has_all) ≡ true
-unfolding each_group has_all every_scheme all_below choose share_masks ones ones_in
+all_passes : every_scheme (each_group enough has_all) ≡ true
+unfolding each_group enough has_all every_scheme all_below choose share_masks ones ones_in
 all_passes = refl
 
 -- the ranks are as many as the masks
@@ -38,9 +37,9 @@ below_length : (n t rank : ℕ) → lawful n t ≡ true → rank < shares n t �
 below_length n t rank h low = omega (arith, length_masks n t h)
 
 pub enough_has : (n t group rank : ℕ) → lawful n t ≡ true → group < 2 ^ n → t ≤ ones group → rank < shares n t → group_has n t group rank ≡ true
-unfolding has_all
-enough_has n t group rank h low enough is =
-    AllPass-from_list_all (meets n group) (share_masks n t) (sym (cond-true _ _ _ (le-leb t (ones group) enough)) ∙ group_at has_all all_passes n t group h low) rank 0 (below_length n t rank h is)
+unfolding enough has_all
+enough_has n t group rank h low many is =
+    AllPass-from_list_all (meets n group) (share_masks n t) (group_at enough has_all all_passes n t group h low (le-leb t (ones group) many)) rank 0 (below_length n t rank h is)
 
 pub enough_have_all : EnoughHaveAll
 unfolding EnoughHaveAll
@@ -48,33 +47,33 @@ enough_have_all n t group h low enough =
     kept_same (group_has n t group) (λ _. true) 0 (shares n t) (λ rank _ high. enough_has n t group rank h low enough (omega arith)) ∙ kept_all (ranks n t)
 
 lacks_one : ℕ → ℕ → List ℕ → ℕ → Bool
-lacks_one n t ms group = cond (ltb (ones group) t) (list_any (λ mask. not (meets n group mask)) ms) true
+lacks_one n t ms group = list_any (λ mask. not (meets n group mask)) ms
 
-one_passes : every_scheme (each_group lacks_one) ≡ true
-unfolding each_group lacks_one every_scheme all_below choose share_masks ones ones_in
+one_passes : every_scheme (each_group few lacks_one) ≡ true
+unfolding each_group few lacks_one every_scheme all_below choose share_masks ones ones_in
 one_passes = refl
 
 pub few_lack_one : FewLackOne
-unfolding FewLackOne lacks_one
-few_lack_one n t group h low few =
-    let at = some_at (λ mask. not (meets n group mask)) (share_masks n t) (sym (cond-true _ _ _ (lt-ltb (ones group) t few)) ∙ group_at lacks_one one_passes n t group h low) in
+unfolding FewLackOne few lacks_one
+few_lack_one n t group h low small =
+    let at = some_at (λ mask. not (meets n group mask)) (share_masks n t) (group_at few lacks_one one_passes n t group h low (lt-ltb (ones group) t small)) in
     (at.0, omega (arith, at.1, length_masks n t h), not-true (group_has n t group at.0) at.2)
 
 -- of each place outside a small group, some mask has it and none of the group
 lacks_other : ℕ → ℕ → List ℕ → ℕ → Bool
 lacks_other n t ms group =
-    cond (ltb (ones group) t) (list_all (λ p. member p group || list_any (λ mask. member p mask && not (meets n group mask)) ms) (places n)) true
+    list_all (λ p. member p group || list_any (λ mask. member p mask && not (meets n group mask)) ms) (places n)
 
-other_passes : every_scheme (each_group lacks_other) ≡ true
-unfolding each_group lacks_other every_scheme all_below choose share_masks ones ones_in
+other_passes : every_scheme (each_group few lacks_other) ≡ true
+unfolding each_group few lacks_other every_scheme all_below choose share_masks ones ones_in
 other_passes = refl
 
 -- the place of a unit whose ranks a small group has is in the group
 has_only_own : (n t a b p : ℕ) → lawful n t ≡ true → a < 2 ^ n → ones a < t → ((rank : ℕ) → rank < shares n t → group_has n t a rank ≡ group_has n t b rank) → 1 ≤ p → p < 1 + n → member p b ≡ true → member p a ≡ true
-unfolding lacks_other
-has_only_own n t a b p h low few same first last is =
+unfolding few lacks_other
+has_only_own n t a b p h low small same first last is =
     let test = λ (mask : ℕ). member p mask && not (meets n a mask) in
-    let tests = in_range (λ q. member q a || list_any (λ mask. member q mask && not (meets n a mask)) (share_masks n t)) 1 n p first last (sym (cond-true _ _ _ (lt-ltb (ones a) t few)) ∙ group_at lacks_other other_passes n t a h low) in
+    let tests = in_range (λ q. member q a || list_any (λ mask. member q mask && not (meets n a mask)) (share_masks n t)) 1 n p first last (group_at few lacks_other other_passes n t a h low (lt-ltb (ones a) t small)) in
     ⊎_elim (λ own. own)
     (λ some.
     let at = some_at test (share_masks n t) some in
@@ -99,11 +98,6 @@ unfolding GroupOfMembers
 same_group n a b few low_a low_b same =
     sym (group_of_members n a few low_a) ∙ ap group_of (kept_same (λ p. member p a) (λ p. member p b) 1 n same) ∙ group_of_members n b few low_b
 
-same_test : (x y : Bool) → (x ≡ true → y ≡ true) → (y ≡ true → x ≡ true) → x ≡ y
-same_test true y f g = sym (f refl)
-same_test false true f g = absurd (false≢true (g refl))
-same_test false false f g = refl
-
 pub equal_shares_lem : EqualShares
 unfolding EqualShares EnoughHaveAll FewLackOne
 equal_shares_lem n t a b h low_a low_b = (forth, back)
@@ -119,7 +113,7 @@ equal_shares_lem n t a b h low_a low_b = (forth, back)
     both_small : ones a < t → ones b < t → ((rank : ℕ) → rank < shares n t → group_has n t a rank ≡ group_has n t b rank) → a ≡ b
     both_small few_a few_b same =
         same_group n a b (n_high n t h) low_a low_b
-        (λ p first last. same_test (member p a) (member p b) (has_only_own n t b a p h low_b few_b (λ rank low. sym (same rank low)) first last) (has_only_own n t a b p h low_a few_a same first last))
+        (λ p first last. same_from_decides (member p a) (member p b) (has_only_own n t b a p h low_b few_b (λ rank low. sym (same rank low)) first last, has_only_own n t a b p h low_a few_a same first last) (λ e. e, λ e. e))
 
     forth : group_ranks n t a ≡ group_ranks n t b → (a ≡ b) ⊎ ((t ≤ ones a) × (t ≤ ones b))
     forth e =
@@ -132,10 +126,17 @@ equal_shares_lem n t a b h low_a low_b = (forth, back)
     back : (a ≡ b) ⊎ ((t ≤ ones a) × (t ≤ ones b)) → group_ranks n t a ≡ group_ranks n t b
     back = ⊎_elim (ap (group_ranks n t)) (λ both. enough_have_all n t a h low_a both.0 ∙ sym (enough_have_all n t b h low_b both.1))
 
--- whoever decides the law's right side answers whether two groups hold equal shares
-pub equal_from : (n t a b : ℕ) → lawful n t ≡ true → (is_within n a && is_within n b) ≡ true → (r : Bool) → Decides r ((a ≡ b) ⊎ ((t ≤ ones a) × (t ≤ ones b))) → r ≡ equal_shares n t a b
-unfolding EqualShares
-equal_from n t a b h within r decides =
-    let lows = and_parts (is_within n a) (is_within n b) within in
-    let law = equal_shares_lem n t a b h (ltb-true a (2 ^ n) lows.0) (ltb-true b (2 ^ n) lows.1) in
-    same_from_decides r (equal_shares n t a b) (Decides-like r law.1 law.0 decides) (bytes_eq-Decides (group_ranks n t a) (group_ranks n t b))
+-- the law's right side decides whether two groups hold equal shares
+module _ (n t a b : ℕ) (h : lawful n t ≡ true) (within : (is_within n a && is_within n b) ≡ true) where
+  equal_ranks : Decides (equal_shares n t a b) ((a ≡ b) ⊎ ((t ≤ ones a) × (t ≤ ones b)))
+  unfolding EqualShares
+  equal_ranks =
+      let lows = and_parts (is_within n a) (is_within n b) within in
+      let law = equal_shares_lem n t a b h (ltb-true a (2 ^ n) lows.0) (ltb-true b (2 ^ n) lows.1) in
+      Decides-like (equal_shares n t a b) law.0 law.1 (bytes_eq-Decides (group_ranks n t a) (group_ranks n t b))
+
+  pub equal_if : (a ≡ b) ⊎ ((t ≤ ones a) × (t ≤ ones b)) → equal_shares n t a b ≡ true
+  equal_if = equal_ranks.1
+
+  pub equal_unless : (a ≡ b → ⊥) → ((t ≤ ones a) × (t ≤ ones b) → ⊥) → equal_shares n t a b ≡ false
+  equal_unless apart few = false_from_ne_true (equal_shares n t a b) (λ e. ⊎_elim apart few (equal_ranks.0 e))

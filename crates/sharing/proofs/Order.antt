@@ -56,15 +56,12 @@ filled_none ms = (refl, λ k. ⊎_elim (get_or-replicate 70 k 0 0) (get_or_past 
 pub filled_all : (xs ms : List ℕ) (c : ℕ) → length ms ≤ c → Filled xs ms c → (k : ℕ) → get_or xs k 0 ≡ get_or ms k 0
 filled_all xs ms c all old k = old.1 k ∙ ap (λ l. get_or l k 0) (take_all c ms all)
 
--- what `enumerate` gives at the place c, and how many
-pub pair_at : (xs ms : List ℕ) (c rank mask : ℕ) → xs ≡ ms → (c < length (enumerate_from 0 xs)) × ((rank, mask) ≡ get_or (enumerate_from 0 xs) c (rank, mask)) → (c < length ms) × (rank ≡ c) × (mask ≡ get_or ms c 0)
-pair_at xs ms c rank mask e h =
-    let low : c < length ms = omega (arith, h.0, length-enumerate_from 0 xs, ap length e) in
-    let same = h.1 ∙ ap (λ l. get_or (enumerate_from 0 l) c (rank, mask)) e ∙ get_or-enumerate_from 0 ms c (rank, mask) low in
+-- what `enumerate` gives at the place c
+pub pair_at : (ms : List ℕ) (c rank mask : ℕ) → (c < length (enumerate_from 0 ms)) × ((rank, mask) ≡ get_or (enumerate_from 0 ms) c (rank, mask)) → (c < length ms) × (rank ≡ c) × (mask ≡ get_or ms c 0)
+pair_at ms c rank mask h =
+    let low : c < length ms = omega (arith, h.0, length-enumerate_from 0 ms) in
+    let same = h.1 ∙ get_or-enumerate_from 0 ms c (rank, mask) low in
     (low, ap (λ p. p.0) same ∙ zero-add c, ap (λ p. p.1) same ∙ get_or_default_zero ms c mask low)
-
-pub pairs_are : (xs ms : List ℕ) (c : ℕ) → xs ≡ ms → c ≡ length (enumerate_from 0 xs) → c ≡ length ms
-pairs_are xs ms c e h = h ∙ length-enumerate_from 0 xs ∙ ap length e
 
 pub filled_more : (xs ms : List ℕ) (c v : ℕ) → c < length ms → c < 70 → v ≡ get_or ms c 0 → Filled xs ms c → Filled (set xs c v) ms (c + 1)
 filled_more xs ms c v in_masks in_table e old = (length-set xs c v ∙ old.0, λ k. at k (cases_order k c))

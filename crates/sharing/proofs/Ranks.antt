@@ -1,15 +1,15 @@
 -- Ranks and masks belong to each other, and the rank is the sum of binomials: one computed test of each. Assumes nothing.
-use Rattle.std.proofs.Common.{◌≡◌, ℕ, ◌^◌, ◌<◌, ◌≤◌, Bool, true, ◌&&◌, eqb, ltb, leb, List, length, get_or, cond, sym, refl, ap, ◌∙◌, arith}
+use Rattle.std.proofs.Common.{◌≡◌, ℕ, ◌^◌, ◌<◌, ◌≤◌, Bool, true, ◌&&◌, eqb, ltb, leb, List, length, get_or, refl, ap, ◌∙◌, arith}
 use lib.Count.{ones, ones_in}
 use Rattle.std.specs.List.{position_or_len, range_with_len, zip, list_all}
-use Rattle.std.proofs.lemmas.Bool.{and_parts, cond-true, eqb-true, leb-true, ltb-true}
+use Rattle.std.proofs.lemmas.Bool.{and_parts, eqb-true, leb-true, ltb-true}
 use Rattle.std.proofs.lemmas.List.Sums.{AllPass-from_list_all}
 use Rattle.sharing.specs.Choose.{choose}
 use Rattle.sharing.specs.Masks.{lawful, is_share_mask, share_masks, shares, mask_of, rank_of, bits_of, rank_sum}
 use Rattle.sharing.specs.Laws.{RankIsSum, RanksAndMasks}
 use Rattle.sharing.proofs.Finite.{all_below, below_at}
 use Rattle.sharing.proofs.Order.{shares_few}
-use Rattle.sharing.proofs.Schemes.{every_scheme, scheme_at}
+use Rattle.sharing.proofs.Schemes.{every_scheme, scheme_at, each_group, group_at}
 
 -- where a mask stands in the list ms
 abbrev place : List ℕ → ℕ → ℕ
@@ -19,18 +19,12 @@ place ms m = position_or_len (eqb m) ms
 of_mask : ℕ → ℕ → List ℕ → ℕ → Bool
 of_mask n t ms m = eqb (place ms m) (rank_sum m) && (ltb (place ms m) (shares n t) && eqb (get_or ms (place ms m) 0) m)
 
-of_masks : ℕ → ℕ → List ℕ → Bool
-of_masks n t ms = all_below (λ m. cond (is_share_mask n t m) (of_mask n t ms m) true) (2 ^ n)
-
-masks_pass : (n t : ℕ) → lawful n t ≡ true → of_masks n t (share_masks n t) ≡ true
-unfolding of_masks of_mask every_scheme all_below choose rank_sum bits_of share_masks ones ones_in
-masks_pass = scheme_at (λ n t. of_masks n t (share_masks n t)) refl
+masks_pass : every_scheme (each_group is_share_mask of_mask) ≡ true
+unfolding each_group of_mask every_scheme all_below choose rank_sum bits_of share_masks ones ones_in
+masks_pass = refl
 
 mask_passes : (n t mask : ℕ) → lawful n t ≡ true → is_share_mask n t mask ≡ true → of_mask n t (share_masks n t) mask ≡ true
-unfolding of_masks
-mask_passes n t mask h is =
-    let low = ltb-true mask (2 ^ n) (and_parts (ltb mask (2 ^ n)) _ is).0 in
-    sym (cond-true _ _ _ is) ∙ below_at (λ m. cond (is_share_mask n t m) (of_mask n t (share_masks n t) m) true) (2 ^ n) mask (masks_pass n t h) low
+mask_passes n t mask h is = group_at is_share_mask of_mask masks_pass n t mask h (ltb-true mask (2 ^ n) (and_parts (ltb mask (2 ^ n)) _ is).0) is
 
 pub rank_is_sum : RankIsSum
 unfolding RankIsSum of_mask

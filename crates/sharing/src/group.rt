@@ -19,7 +19,7 @@ pub(crate) fn is_within(group: u8, n: u8) -> bool
 }
 
 // Whether the group has exactly `size` places, all of them within `n`.
-pub(crate) fn is_group_of(size: u8, group: u8, n: u8) -> bool
+pub(crate) fn is_group_of(group: u8, n: u8, size: u8) -> bool
     requires { n ≤ 8 }
     ensures { result ≡ is_group_of size n group }
 {

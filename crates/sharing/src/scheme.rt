@@ -31,8 +31,11 @@ impl Scheme {
         if t < 2 || t > n || n > 8 {
             return Err(Refusal::Parameters);
         }
-        let masks = share_masks(n, t);
-        Ok(Scheme { n, t, masks })
+        Ok(Scheme {
+            n,
+            t,
+            masks: share_masks(n, t),
+        })
     }
 
     /// The number of shares of a dealing.
@@ -87,7 +90,7 @@ impl Scheme {
         ensures enough { EnoughHaveAll }
         ensures few { FewLackOne }
     {
-        if !is_group_of(self.t, quorum, self.n) {
+        if !is_group_of(quorum, self.n, self.t) {
             return Err(Refusal::Quorum);
         }
         let mask = self.mask_of(rank)?;
@@ -129,6 +132,7 @@ impl Scheme {
     }
 
     // By the law of equal shares no rank has to be looked at.
+    #[tactic(auto, using(crate::proofs::Groups::equal_if, crate::proofs::Groups::equal_unless))]
     fn same_shares(&self, a: u8, b: u8) -> bool
         requires { (is_within self.now.n a && is_within self.now.n b) ≡ true }
         ensures { result ≡ equal_shares self.now.n self.now.t a b }
@@ -143,10 +147,10 @@ fn is_share_mask(n: u8, t: u8, mask: u8) -> bool
     requires { lawful n t ≡ true }
     ensures { result ≡ is_share_mask n t mask }
 {
-    is_group_of(n - t + 1, mask, n)
+    is_group_of(mask, n, n - t + 1)
 }
 
-// The share masks in increasing order, and zeros after them.
+// The share masks in increasing order, and zeros after them. With at most 8 units a mask is a byte.
 fn share_masks(n: u8, t: u8) -> [u8; 70]
     requires { lawful n t ≡ true }
     ensures room { length result ≡ 70 }
