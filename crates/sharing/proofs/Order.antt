@@ -1,11 +1,11 @@
 -- The share masks in their order. Assumes nothing.
-use Rattle.std.proofs.Common.{◌≡◌, ℕ, ◌+◌, ◌<◌, ◌≤◌, Bool, true, false, ◌&&◌, eqb, leb, List, length, get_or, set, take, replicate, filter, zero-add, length-set, length-take, get_or-set_same, get_or-set_other, sym, refl, ap, ◌∙◌, ◌⊎◌, inl, inr, ⊎_elim, arith}
+use Rattle.std.proofs.Common.{◌≡◌, ℕ, ◌+◌, ◌<◌, ◌≤◌, Bool, true, false, ◌&&◌, eqb, leb, List, length, get_or, set, take, replicate, filter, length-set, refl, ◌∙◌, ⊎_elim, arith}
 use lib.Count.{ones, ones_in}
 use Rattle.std.specs.List.{range_with_len, enumerate_from}
 use Rattle.std.specs.Str.{bytes_eq}
-use Rattle.std.proofs.lemmas.Bool.{and_parts, and_right, cases_lt, cases_order, eqb-true, leb-true}
-use Rattle.std.proofs.lemmas.List.{get_or_past, get_or-take, get_or-replicate, take_all}
-use Rattle.std.proofs.lemmas.Grind.{get_or_default_zero}
+use Rattle.std.proofs.lemmas.Bool.{and_parts, and_right, cases_lt, eqb-true, leb-true}
+use Rattle.std.proofs.lemmas.List.{get_or_past, get_or-replicate}
+use Rattle.std.proofs.lemmas.Grind.{common_steps}
 use Rattle.std.proofs.lemmas.List.FromFn.{length-enumerate_from, get_or-enumerate_from}
 use Rattle.std.proofs.lemmas.Slice.Eq.{bytes_eq-Decides}
 use Rattle.sharing.specs.Choose.{choose}
@@ -54,21 +54,18 @@ pub filled_none : (ms : List ℕ) → Filled (replicate 70 0) ms 0
 filled_none ms = (refl, λ k. ⊎_elim (get_or-replicate 70 k 0 0) (get_or_past (replicate 70 0) k 0) (cases_lt k 70))
 
 pub filled_all : (xs ms : List ℕ) (c : ℕ) → length ms ≤ c → Filled xs ms c → (k : ℕ) → get_or xs k 0 ≡ get_or ms k 0
-filled_all xs ms c all old k = old.1 k ∙ ap (λ l. get_or l k 0) (take_all c ms all)
+filled_all xs ms c all old k = let same = old.1 k in grind (arith, common_steps)
 
 -- what `enumerate` gives at the place c
 pub pair_at : (ms : List ℕ) (c rank mask : ℕ) → (c < length (enumerate_from 0 ms)) × ((rank, mask) ≡ get_or (enumerate_from 0 ms) c (rank, mask)) → (c < length ms) × (rank ≡ c) × (mask ≡ get_or ms c 0)
 pair_at ms c rank mask h =
     let low : c < length ms = omega (arith, h.0, length-enumerate_from 0 ms) in
     let same = h.1 ∙ get_or-enumerate_from 0 ms c (rank, mask) low in
-    (low, ap (λ p. p.0) same ∙ zero-add c, ap (λ p. p.1) same ∙ get_or_default_zero ms c mask low)
+    (low, grind (arith, common_steps), grind (arith, common_steps))
 
 pub filled_more : (xs ms : List ℕ) (c v : ℕ) → c < length ms → c < 70 → v ≡ get_or ms c 0 → Filled xs ms c → Filled (set xs c v) ms (c + 1)
-filled_more xs ms c v in_masks in_table e old = (length-set xs c v ∙ old.0, λ k. at k (cases_order k c))
-  where
-    at : (k : ℕ) → (k ≡ c) ⊎ ((k < c) ⊎ (c < k)) → get_or (set xs c v) k 0 ≡ get_or (take (c + 1) ms) k 0
-    at k (inl here) = rw here (get_or-set_same xs c v 0 (omega (arith, old.0)) ∙ e ∙ sym (get_or-take (c + 1) ms c 0 (omega arith)))
-    at k (inr (inl before)) =
-        get_or-set_other xs c k v 0 (λ same. omega arith) ∙ old.1 k ∙ get_or-take c ms k 0 before ∙ sym (get_or-take (c + 1) ms k 0 (omega arith))
-    at k (inr (inr after)) =
-        get_or-set_other xs c k v 0 (λ same. omega arith) ∙ old.1 k ∙ get_or_past (take c ms) k 0 (omega (arith, length-take c ms)) ∙ sym (get_or_past (take (c + 1) ms) k 0 (omega (arith, length-take (c + 1) ms)))
+filled_more xs ms c v in_masks in_table e old = (
+  length-set xs c v ∙ old.0,
+  λ k. let same = old.1 k in
+      grind (arith, common_steps),
+)

@@ -25,7 +25,7 @@ is_group_of size n group = is_within n group && count_ones group == size
 
 -- a mask below 2 ^ n with exactly n - t + 1 ones
 abbrev pub is_share_mask : ℕ → ℕ → ℕ → Bool
-is_share_mask n t = is_group_of (n - t + 1) n
+is_share_mask n t mask = is_group_of (n - t + 1) n mask
 
 -- the share masks in increasing order
 unfoldable pub share_masks : ℕ → ℕ → List ℕ

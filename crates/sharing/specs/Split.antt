@@ -5,7 +5,7 @@ use Rattle.sharing.specs.Groups.{places, ranks}
 
 -- exactly t places within n
 abbrev pub is_quorum : ℕ → ℕ → ℕ → Bool
-is_quorum n t = is_group_of t n
+is_quorum n t q = is_group_of t n q
 
 -- the smallest place of 1 to n that is in both groups
 unfoldable pub first_common : ℕ → ℕ → ℕ → Option ℕ
