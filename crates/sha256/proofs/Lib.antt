@@ -1,4 +1,5 @@
 pub mod Bits
+pub mod Words
 pub mod Rounds
 pub mod Windows
 pub mod Blocks

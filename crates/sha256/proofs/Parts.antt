@@ -1,6 +1,6 @@
 -- Hashing part by part. Assumes nothing.
 use Rattle.std.proofs.Common.{◌≡◌, ℕ, ◌+◌, ◌*◌, ◌/◌, ◌%◌, ◌^◌, ◌<◌, ◌≤◌, List, [], ◌∷◌, ◌++◌, length, take, drop, replicate, sym, refl, ap, ◌∙◌, ap₂, zero-add, arith}
-use Rattle.std.proofs.lemmas.List.{append_assoc, take-append-drop, take_all, drop-append-le, drop-drop, drop_all, length-append, length-drop, length-replicate}
+use Rattle.std.proofs.lemmas.List.{append_assoc, take-append-drop, take_all, drop-append-le, drop-drop, drop_all, length-take-le, length-append, length-drop, length-replicate}
 use Rattle.sha256.specs.Primes.{initial}
 use Rattle.sha256.specs.Compress.{compressed, compressed_all}
 use Rattle.sha256.specs.Hash.{hash_bytes, zeros_after, length_field, padding, padded, sha256}
@@ -13,12 +13,16 @@ use Rattle.sha256.specs.Laws.{PaddedInBlocks, InTwoParts}
 pub same : {a b c d : List ℕ} {m n : ℕ} → a ≡ b → c ≡ d → m ≡ n → ◌≡◌ {A = Running} (record { hash = a; rest = c; count = m }) (record { hash = b; rest = d; count = n })
 same p q r = cc
 
+-- as many bytes wait as the count is past whole blocks
+pub waiting_is : (n : ℕ) (block : List ℕ) → length block ≡ 64 → length (take (n % 64) block) ≡ n % 64
+waiting_is n block h = length-take-le (n % 64) block (omega arith)
+
 -- bytes taken in that leave a hash and a rest
 abbrev pub taken : Running → List ℕ → List ℕ → List ℕ → Running
 taken r bytes hash rest = record { hash = hash; rest = rest; count = (r.count + length bytes) % 2 ^ 64 }
 
 -- a part after which n blocks are whole
-of_blocks : (r : Running) (bytes : List ℕ) (n : ℕ) → length (r.rest ++ bytes) / 64 ≡ n
+pub of_blocks : (r : Running) (bytes : List ℕ) (n : ℕ) → length (r.rest ++ bytes) / 64 ≡ n
     → absorbed r bytes ≡ taken r bytes (compressed_all n r.hash (r.rest ++ bytes)) (drop (64 * n) (r.rest ++ bytes))
 unfolding absorbed
 of_blocks r bytes n e =
@@ -88,12 +92,13 @@ finished_whole message =
     ∙ ap (λ p. hash_bytes (absorbed r p).hash) (padding_wraps n)
     ∙ ap (λ s. hash_bytes s.hash) (absorbed_two (resumed initial 0) message (padding n) ∙ of_blocks (resumed initial 0) (message ++ padding n) _ refl)
 
+-- two parts one after the other are hashed as the whole
+pub in_parts : (xs ys : List ℕ) → finished (absorbed (absorbed begun xs) ys) ≡ sha256 (xs ++ ys)
+in_parts xs ys = ap finished (absorbed_two begun xs ys) ∙ finished_whole (xs ++ ys)
+
 pub in_two_parts : InTwoParts
 unfolding InTwoParts
-in_two_parts message cut =
-    ap finished (absorbed_two begun (take cut message) (drop cut message))
-    ∙ ap (λ m. finished (absorbed begun m)) (take-append-drop cut message)
-    ∙ finished_whole message
+in_two_parts message cut = in_parts (take cut message) (drop cut message) ∙ ap sha256 (take-append-drop cut message)
 
 padding_length : (n : ℕ) → length (padding n) ≡ zeros_after n + 9
 unfolding padding

@@ -6,7 +6,8 @@ use Rattle.sha256.specs.Primes.{initial}
 use Rattle.sha256.specs.Compress.{compressed}
 use Rattle.sha256.specs.Hash.{sha256}
 use Rattle.sha256.specs.Running.{resumed, begun, absorbed, finished}
-use Rattle.sha256.specs.Hmac.{zero_filled, key_block, masked, hmac, midstate, digest_after}
+use Rattle.sha256.specs.Hmac.{zero_filled, key_block, masked, hmac, midstate, prepared_key, digest_after, mac_of}
+use Rattle.sha256.specs.declared.hmac.HmacKey.{HmacKey}
 use Rattle.sha256.specs.Laws.{PreparedIsHmac, ZerosAfterKey}
 use Rattle.sha256.proofs.Parts.{same, absorbed_block, absorbed_two, finished_whole}
 use Rattle.sha256.proofs.Digests.{sha256_length}
@@ -62,3 +63,7 @@ zeros_after_key key message n h =
     let block : key_block (key ++ replicate n 0) ≡ key_block key =
     short_block (key ++ replicate n 0) (omega (arith, long)) ∙ filled_on key n h ∙ sym (short_block key (omega arith)) in
     ap (λ b. sha256 (masked 0x5c b ++ sha256 (masked 0x36 b ++ message))) block
+
+pub mac_is_hmac : (key message : List ℕ) (prepared : HmacKey) → prepared ≡ prepared_key key → mac_of prepared message ≡ hmac key message
+unfolding PreparedIsHmac
+mac_is_hmac key message prepared e = ap (λ p. mac_of p message) e ∙ prepared_is_hmac key message

@@ -1,6 +1,6 @@
 -- The published examples, computed, and all laws together. Assumes nothing.
 use Rattle.std.proofs.Common.{refl}
-use Rattle.sha256.specs.Primes.{every_of, is_prime, primes, raised, greatest, cube_root, square_root, round_constants, initial}
+use Rattle.sha256.specs.Primes.{is_prime, primes, raised, greatest, cube_root, square_root, round_constants, initial}
 use Rattle.sha256.specs.Rounds.{next_word, with_next, extended, schedule, round_of, rounds}
 use Rattle.sha256.specs.Compress.{block_words, working_of, added_to, compressed, compressed_all}
 use Rattle.sha256.specs.Hash.{hash_bytes, padding, padded, sha256}
@@ -12,7 +12,7 @@ use Rattle.sha256.proofs.Digests.{digest_bytes}
 use Rattle.sha256.proofs.Roots.{primes_counted, roots_greatest}
 
 published : Published
-unfolding every_of is_prime primes raised greatest cube_root square_root round_constants initial next_word with_next extended schedule round_of rounds block_words working_of added_to compressed compressed_all hash_bytes padding padded sha256 key_block masked hmac
+unfolding is_prime primes raised greatest cube_root square_root round_constants initial next_word with_next extended schedule round_of rounds block_words working_of added_to compressed compressed_all hash_bytes padding padded sha256 key_block masked hmac
 published = record { empty = refl; abc = refl; two_blocks = refl; code = refl }
 
 pub laws : Laws

@@ -1,14 +1,14 @@
 -- The roots are the greatest, by one test over the primes. Assumes nothing.
 use Rattle.std.proofs.Common.{◌≡◌, ℕ, zero, suc, ◌+◌, ◌*◌, ◌^◌, ◌<◌, Bool, true, ◌&&◌, ltb, leb, List, [], ◌∷◌, length, get_or, refl, arith}
 use Rattle.std.proofs.lemmas.Bool.{and_parts, leb-true, ltb-true}
-use Rattle.sha256.specs.Primes.{every_of, is_prime, primes, raised, greatest, cube_root, square_root}
+use Rattle.std.specs.List.{list_all}
+use Rattle.sha256.specs.Primes.{is_prime, primes, raised, greatest, cube_root, square_root}
 use Rattle.sha256.specs.Laws.{Root, RootsGreatest, PrimesCounted}
 
-every_at : (f : ℕ → Bool) (xs : List ℕ) → every_of f xs ≡ true → (i : ℕ) → i < length xs → f (get_or xs i 0) ≡ true
-unfolding every_of
-every_at f [] t i h = absurd (omega arith)
-every_at f (x ∷ xs) t zero h = (and_parts (f x) (every_of f xs) t).0
-every_at f (x ∷ xs) t (suc i) h = every_at f xs (and_parts (f x) (every_of f xs) t).1 i (omega arith)
+all_at : (f : ℕ → Bool) (xs : List ℕ) → list_all f xs ≡ true → (i : ℕ) → i < length xs → f (get_or xs i 0) ≡ true
+all_at f [] t i h = absurd (omega arith)
+all_at f (x ∷ xs) t zero h = (and_parts (f x) (list_all f xs) t).0
+all_at f (x ∷ xs) t (suc i) h = all_at f xs (and_parts (f x) (list_all f xs) t).1 i (omega arith)
 
 is_root : ℕ → ℕ → ℕ → Bool
 is_root k x y = leb (y ^ k) x && ltb x ((y + 1) ^ k)
@@ -20,15 +20,15 @@ root_is k x y t =
     record { low = leb-true _ _ parts.0; high = ltb-true _ _ parts.1 }
 
 pub primes_counted : PrimesCounted
-unfolding PrimesCounted every_of is_prime primes
+unfolding PrimesCounted is_prime primes
 primes_counted = refl
 
-cubes_test : every_of (λ p. is_root 3 (p * 2 ^ 96) (cube_root (p * 2 ^ 96))) primes ≡ true
-unfolding every_of is_prime primes raised greatest cube_root is_root
+cubes_test : list_all (λ p. is_root 3 (p * 2 ^ 96) (cube_root (p * 2 ^ 96))) primes ≡ true
+unfolding is_prime primes raised greatest cube_root is_root
 cubes_test = refl
 
-squares_test : every_of (λ p. is_root 2 (p * 2 ^ 64) (square_root (p * 2 ^ 64))) primes ≡ true
-unfolding every_of is_prime primes raised greatest square_root is_root
+squares_test : list_all (λ p. is_root 2 (p * 2 ^ 64) (square_root (p * 2 ^ 64))) primes ≡ true
+unfolding is_prime primes raised greatest square_root is_root
 squares_test = refl
 
 many : (i : ℕ) → i < 64 → i < length primes
@@ -38,6 +38,6 @@ many i h = omega (arith, primes_counted)
 pub roots_greatest : RootsGreatest
 unfolding RootsGreatest
 roots_greatest = (
-  λ i h. root_is 3 _ _ (every_at (λ p. is_root 3 (p * 2 ^ 96) (cube_root (p * 2 ^ 96))) primes cubes_test i (many i h)),
-  λ i h. root_is 2 _ _ (every_at (λ p. is_root 2 (p * 2 ^ 64) (square_root (p * 2 ^ 64))) primes squares_test i (many i (omega arith))),
+  λ i h. root_is 3 _ _ (all_at (λ p. is_root 3 (p * 2 ^ 96) (cube_root (p * 2 ^ 96))) primes cubes_test i (many i h)),
+  λ i h. root_is 2 _ _ (all_at (λ p. is_root 2 (p * 2 ^ 64) (square_root (p * 2 ^ 64))) primes squares_test i (many i (omega arith))),
 )

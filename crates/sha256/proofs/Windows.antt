@@ -1,9 +1,9 @@
 -- The schedule, sixteen words at a time. Assumes nothing.
-use Rattle.std.proofs.Common.{◌≡◌, ℕ, zero, suc, ◌+◌, ◌-◌, ◌≤◌, List, [], ◌∷◌, ◌++◌, map, length, get_or, take, drop, sym, refl, ap, ◌∙◌, suc-add, zero-add, add-one, arith}
+use Rattle.std.proofs.Common.{◌≡◌, ℕ, zero, suc, ◌+◌, ◌-◌, ◌≤◌, List, ◌++◌, map, length, get_or, take, drop, sym, refl, ap, ◌∙◌, suc-add, zero-add, arith}
 use Rattle.std.specs.List.{range_with_len}
-use Rattle.std.proofs.lemmas.List.{append_assoc, append-nil, length-append, length-drop, get_or-append_right, take-append-drop, take_all, take_at, take-take}
+use Rattle.std.proofs.lemmas.List.{append_assoc, length-append, length-drop, get_or-append_right, take-append-drop, take_all, take_at, take-take}
 use Rattle.std.proofs.lemmas.List.FromFn.{fill_by_all}
-use Rattle.sha256.specs.Rounds.{next_word, with_next, extended, schedule}
+use Rattle.sha256.specs.Rounds.{with_next, extended, schedule}
 use Rattle.sha256.specs.Inner.{next_window}
 
 next_length : (ws : List ℕ) → length (with_next ws) ≡ length ws + 1
@@ -50,30 +50,6 @@ unfolding extended
 extended_after zero xs ws h = refl
 extended_after (suc n) xs ws h =
     ap (extended n) (next_after xs ws h) ∙ extended_after n xs (with_next ws) (omega (arith, next_length ws))
-
--- the word that follows sixteen words and ns, by its place in ns
-unfoldable pub following : List ℕ → List ℕ → ℕ
-following ws ns =
-    let all = ws ++ ns in
-    let k = length ns in
-    next_word (get_or all (k + 14) 0) (get_or all (k + 9) 0) (get_or all (k + 1) 0) (get_or all k 0)
-
-pub window_none : (ws : List ℕ) → extended 0 ws ≡ ws ++ []
-unfolding extended
-window_none ws = sym (append-nil ws)
-
-pub window_more : (ws ns : List ℕ) (n : ℕ) → length ws ≡ 16 → extended (length ns) ws ≡ ws ++ ns → n ≡ following ws ns → extended (suc (length ns)) ws ≡ ws ++ (ns ++ n ∷ [])
-unfolding with_next extended following
-window_more ws ns n h e f =
-    let k = length ns in
-    let all = ws ++ ns in
-    let t = length-append ws ns in
-    let at : (i j : ℕ) → length all - i ≡ k + j → get_or all (length all - i) 0 ≡ get_or all (k + j) 0 = λ i j p. ap (λ m. get_or all m 0) p in
-    let last : length all - 16 ≡ k = omega arith in
-    ap (λ m. extended m ws) (sym (add-one k))
-    ∙ extended_add k 1 ws
-    ∙ ap with_next e
-    ∙ rw (at 2 14 (omega arith), at 7 9 (omega arith), at 15 1 (omega arith), last, sym f) (append_assoc ws ns _)
 
 -- ---- sixteen words more
 

@@ -1,15 +1,10 @@
 -- The constants of SHA-256, from roots of the first primes. Assumes nothing.
-use Rattle.std.specs.Prelude.{ℕ, zero, suc, ◌+◌, ◌-◌, ◌*◌, ◌%◌, ◌^◌, Bool, true, cond, not, ◌&&◌, List, [], ◌∷◌, map, take, filter, ◌==◌, nat_le}
-use Rattle.std.specs.List.{range_with_len}
-
--- the test passes at each number of a list
-unfoldable pub every_of : (ℕ → Bool) → List ℕ → Bool
-every_of f [] = true
-every_of f (x ∷ xs) = f x && every_of f xs
+use Rattle.std.specs.Prelude.{ℕ, zero, suc, ◌+◌, ◌-◌, ◌*◌, ◌%◌, ◌^◌, Bool, cond, not, ◌&&◌, List, map, take, filter, ◌==◌, nat_le}
+use Rattle.std.specs.List.{range_with_len, list_all}
 
 -- a number from 2 on that no number from 2 to the one below it divides
 unfoldable pub is_prime : ℕ → Bool
-is_prime n = nat_le 2 n && every_of (λ d. not (n % d == 0)) (range_with_len 2 (n - 2))
+is_prime n = nat_le 2 n && list_all (λ d. not (n % d == 0)) (range_with_len 2 (n - 2))
 
 -- the primes up to 311, which are the first 64
 unfoldable pub primes : List ℕ

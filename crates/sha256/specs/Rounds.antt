@@ -1,5 +1,6 @@
 -- The message schedule and the rounds of SHA-256. Assumes nothing.
-use Rattle.std.specs.Prelude.{ℕ, zero, suc, ◌-◌, List, [], ◌∷◌, ◌++◌, length, slice_index}
+use Rattle.std.specs.Prelude.{ℕ, zero, suc, ◌-◌, List, [], ◌∷◌, ◌++◌, length, fold, slice_index}
+use Rattle.std.specs.List.{zip}
 use Rattle.sha256.specs.Words.{add32, big_sigma0, big_sigma1, small_sigma0, small_sigma1, choice, majority}
 use Rattle.sha256.specs.declared.round.Working.{Working}
 
@@ -31,6 +32,4 @@ round_of s k w =
 
 -- a round for each constant with its word
 unfoldable pub rounds : Working → List ℕ → List ℕ → Working
-rounds s [] ws = s
-rounds s (k ∷ ks) [] = s
-rounds s (k ∷ ks) (w ∷ ws) = rounds (round_of s k w) ks ws
+rounds s ks ws = fold (λ t p. round_of t p.0 p.1) s (zip ks ws)

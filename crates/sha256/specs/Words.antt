@@ -13,18 +13,27 @@ rotate_right k x = bit_or (x / 2 ^ k) ((x * 2 ^ (32 - k)) % 2 ^ 32)
 abbrev pub shift_right : ℕ → ℕ → ℕ
 shift_right k x = x / 2 ^ k
 
--- Σ0 and Σ1, σ0 and σ1
+-- Σ, by three numbers of bits
+abbrev pub big_sigma : ℕ → ℕ → ℕ → ℕ → ℕ
+big_sigma a b c x = bit_xor (bit_xor (rotate_right a x) (rotate_right b x)) (rotate_right c x)
+
+-- Σ0 and Σ1
 abbrev pub big_sigma0 : ℕ → ℕ
-big_sigma0 x = bit_xor (bit_xor (rotate_right 2 x) (rotate_right 13 x)) (rotate_right 22 x)
+big_sigma0 x = big_sigma 2 13 22 x
 
 abbrev pub big_sigma1 : ℕ → ℕ
-big_sigma1 x = bit_xor (bit_xor (rotate_right 6 x) (rotate_right 11 x)) (rotate_right 25 x)
+big_sigma1 x = big_sigma 6 11 25 x
 
+-- σ, by three numbers of bits
+abbrev pub small_sigma : ℕ → ℕ → ℕ → ℕ → ℕ
+small_sigma a b c x = bit_xor (bit_xor (rotate_right a x) (rotate_right b x)) (shift_right c x)
+
+-- σ0 and σ1
 abbrev pub small_sigma0 : ℕ → ℕ
-small_sigma0 x = bit_xor (bit_xor (rotate_right 7 x) (rotate_right 18 x)) (shift_right 3 x)
+small_sigma0 x = small_sigma 7 18 3 x
 
 abbrev pub small_sigma1 : ℕ → ℕ
-small_sigma1 x = bit_xor (bit_xor (rotate_right 17 x) (rotate_right 19 x)) (shift_right 10 x)
+small_sigma1 x = small_sigma 17 19 10 x
 
 -- every bit of x the other way round
 abbrev pub complement : ℕ → ℕ

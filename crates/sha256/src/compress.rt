@@ -1,51 +1,36 @@
-ghost use Rattle.std.specs.Prelude.{◌≡◌, ◌/◌, length};
-ghost use Rattle.sha256.specs.Compress.{working_of, added_to, compressed, compressed_all};
+ghost use Rattle.std.specs.Prelude.{◌≡◌, fold};
+ghost use Rattle.sha256.specs.Compress.{added_to, compressed};
 
 use crate::constants::round_constants;
 use crate::round::Working;
 use crate::schedule::{block_words, next_words};
 
-fn working(hash: &[u32; 8]) -> Working
-    ensures { result ≡ working_of hash.now }
-{
-    Working {
-        a: hash[0],
-        b: hash[1],
-        c: hash[2],
-        d: hash[3],
-        e: hash[4],
-        f: hash[5],
-        g: hash[6],
-        h: hash[7],
-    }
-}
-
+#[tactic(auto, unfolding(crate::specs::Compress::added_to))]
 fn add_to(hash: &mut [u32; 8], s: Working)
     ensures { hash.new ≡ added_to hash.old s }
 {
+    let [a, b, c, d, e, f, g, h] = *hash;
     *hash = [
-        hash[0].wrapping_add(s.a),
-        hash[1].wrapping_add(s.b),
-        hash[2].wrapping_add(s.c),
-        hash[3].wrapping_add(s.d),
-        hash[4].wrapping_add(s.e),
-        hash[5].wrapping_add(s.f),
-        hash[6].wrapping_add(s.g),
-        hash[7].wrapping_add(s.h),
+        a.wrapping_add(s.a),
+        b.wrapping_add(s.b),
+        c.wrapping_add(s.c),
+        d.wrapping_add(s.d),
+        e.wrapping_add(s.e),
+        f.wrapping_add(s.f),
+        g.wrapping_add(s.g),
+        h.wrapping_add(s.h),
     ];
 }
 
-// Takes a block of 64 bytes into the hash.
-pub(crate) fn compress(hash: &mut [u32; 8], block: &[u8])
-    requires { length block.now ≡ 64 }
+// Takes a block into the hash.
+pub(crate) fn compress(hash: &mut [u32; 8], block: &[u8; 64])
     ensures { hash.new ≡ compressed hash.old block.now }
 {
-    let k = round_constants();
     let mut w = block_words(block);
-    let mut s = working(hash);
-    for j in 0..4 {
-        let next = s.sixteen_rounds(&k[16 * j..16 * j + 16], &w);
-        s = next;
+    let mut s = Working::from(*hash);
+    // A first call before a loop without the test ran slower: with one call, its rounds are inlined.
+    for (j, k) in round_constants().iter().enumerate() {
+        s.sixteen_rounds(k, &w);
         if j < 3 {
             next_words(&mut w);
         }
@@ -53,11 +38,11 @@ pub(crate) fn compress(hash: &mut [u32; 8], block: &[u8])
     add_to(hash, s);
 }
 
-// Takes every whole block of the bytes into the hash.
-pub(crate) fn compress_all(hash: &mut [u32; 8], bytes: &[u8])
-    ensures { hash.new ≡ compressed_all (length bytes.now / 64) hash.old bytes.now }
+// Takes blocks into the hash, one after the other.
+pub(crate) fn compress_all(hash: &mut [u32; 8], blocks: &[[u8; 64]])
+    ensures { hash.new ≡ fold compressed hash.old blocks.now }
 {
-    for i in 0..bytes.len() / 64 {
-        compress(hash, &bytes[64 * i..64 * i + 64]);
+    for block in blocks {
+        compress(hash, block);
     }
 }

@@ -16,18 +16,20 @@ pub struct HmacKey {
 
 impl HmacKey {
     /// Prepares a key of any length.
+    #[tactic(auto, using(crate::proofs::Prepared::zeros_after_key))]
     pub fn new(key: &[u8]) -> HmacKey
         ensures value { result ≡ prepared_key key.now }
         ensures zeros { ZerosAfterKey }
     {
         let block = key_block(key);
         HmacKey {
-            inner: midstate(block, 0x36),
-            outer: midstate(block, 0x5c),
+            inner: midstate(&block, 0x36),
+            outer: midstate(&block, 0x5c),
         }
     }
 
     /// The message's authentication code under the key.
+    #[tactic(auto, using(crate::proofs::Prepared::prepared_is_hmac))]
     pub fn mac(&self, message: &[u8]) -> [u8; 32]
         ensures value { result ≡ mac_of self.now message.now }
         ensures law { PreparedIsHmac }
@@ -39,8 +41,7 @@ impl HmacKey {
 
 // The key in a block, a longer one by its digest.
 fn key_block(key: &[u8]) -> [u8; 64]
-    ensures value { result ≡ key_block key.now }
-    ensures zeros { ZerosAfterKey }
+    ensures { result ≡ key_block key.now }
 {
     if key.len() <= 64 {
         zero_filled(key)
@@ -56,29 +57,24 @@ fn zero_filled(bytes: &[u8]) -> [u8; 64]
 {
     let mut block = [0; 64];
     let end = bytes.len();
-    block[0..end].copy_from_slice(bytes);
+    block[..end].copy_from_slice(bytes);
     block
 }
 
 // The hash after a block under a pad.
-fn midstate(block: [u8; 64], pad: u8) -> [u32; 8]
-    ensures { result ≡ midstate_of pad block }
+fn midstate(block: &[u8; 64], pad: u8) -> [u32; 8]
+    ensures { result ≡ midstate_of pad block.now }
 {
-    let mut masked = block;
-    for byte in masked.iter_mut() {
-        *byte ^= pad;
-    }
     let mut hash = initial();
-    compress(&mut hash, &masked);
+    compress(&mut hash, &block.map(|byte| byte ^ pad));
     hash
 }
 
 // The digest of a block, which left the hash, and of bytes after it.
 fn digest_after(hash: [u32; 8], bytes: &[u8]) -> [u8; 32]
-    ensures value { result ≡ digest_after hash bytes.now }
-    ensures law { PreparedIsHmac }
+    ensures { result ≡ digest_after hash bytes.now }
 {
-    let mut hasher = Hasher::resume(hash, 64);
+    let mut hasher = Hasher::after_block(hash);
     hasher.update(bytes);
     hasher.finish()
 }

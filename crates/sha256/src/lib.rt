@@ -10,7 +10,6 @@ mod hmac;
 mod padding;
 mod round;
 mod schedule;
-mod update;
 mod word;
 
 pub use hash::digest;

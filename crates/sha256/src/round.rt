@@ -1,7 +1,7 @@
-ghost use Rattle.std.specs.Prelude.{◌≡◌, length};
+ghost use Rattle.std.specs.Prelude.{◌≡◌};
 ghost use Rattle.sha256.specs.Rounds.{round_of, rounds};
 
-use crate::word::{big_sigma0, big_sigma1, choice, majority};
+use crate::word::{big_sigma, choice, majority};
 
 // The working variables.
 #[derive(Clone, Copy)]
@@ -16,17 +16,40 @@ pub(crate) struct Working {
     pub(crate) h: u32,
 }
 
+// The working variables before the first round.
+impl From<[u32; 8]> for Working {
+    ghost use Rattle.std.specs.Prelude.{◌≡◌};
+    ghost use Rattle.sha256.specs.Compress.{working_of};
+
+    ghost from_gives = { λ hash s. s ≡ working_of hash };
+
+    #[tactic(auto, unfolding(crate::specs::Compress::working_of))]
+    fn from([a, b, c, d, e, f, g, h]: [u32; 8]) -> Working {
+        Working {
+            a,
+            b,
+            c,
+            d,
+            e,
+            f,
+            g,
+            h,
+        }
+    }
+}
+
 impl Working {
+    #[tactic(auto, unfolding(crate::specs::Rounds::round_of))]
     fn round(self, k: u32, w: u32) -> Working
         ensures { result ≡ round_of self k w }
     {
         let t1 = self
             .h
-            .wrapping_add(big_sigma1(self.e))
+            .wrapping_add(big_sigma::<6, 11, 25>(self.e))
             .wrapping_add(choice(self.e, self.f, self.g))
             .wrapping_add(k)
             .wrapping_add(w);
-        let t2 = big_sigma0(self.a).wrapping_add(majority(self.a, self.b, self.c));
+        let t2 = big_sigma::<2, 13, 22>(self.a).wrapping_add(majority(self.a, self.b, self.c));
         Working {
             a: t1.wrapping_add(t2),
             b: self.a,
@@ -40,9 +63,8 @@ impl Working {
     }
 
     // Sixteen rounds written out, so that no working variable is moved.
-    pub(crate) fn sixteen_rounds(self, k: &[u32], w: &[u32; 16]) -> Working
-        requires { length k.now ≡ 16 }
-        ensures { result ≡ rounds self k.now w.now }
+    pub(crate) fn sixteen_rounds(&mut self, k: &[u32; 16], w: &[u32; 16])
+        ensures { self.new ≡ rounds self.old k.now w.now }
     {
         let s1 = self.round(k[0], w[0]);
         let s2 = s1.round(k[1], w[1]);
@@ -59,7 +81,6 @@ impl Working {
         let s13 = s12.round(k[12], w[12]);
         let s14 = s13.round(k[13], w[13]);
         let s15 = s14.round(k[14], w[14]);
-        let s16 = s15.round(k[15], w[15]);
-        s16
+        *self = s15.round(k[15], w[15]);
     }
 }

@@ -4,35 +4,32 @@ ghost use Rattle.sha256.specs.Rounds.{next_word};
 ghost use Rattle.sha256.specs.Inner.{next_window};
 ghost use Rattle.sha256.specs.Compress.{block_words};
 
-use crate::word::{small_sigma0, small_sigma1};
+use crate::word::small_sigma;
+use std::array;
 
 // The word of four bytes.
-fn word_at(block: &[u8], i: usize) -> u32
-    requires { i + 4 ≤ length block.now }
-    ensures { result ≡ word_at block.now i }
+fn word(bytes: &[u8; 4]) -> u32
+    ensures { result ≡ word_at bytes.now 0 }
 {
-    u32::from_be_bytes([block[i], block[i + 1], block[i + 2], block[i + 3]])
+    u32::from_be_bytes(*bytes)
 }
 
 // The first sixteen words of the schedule.
-pub(crate) fn block_words(block: &[u8]) -> [u32; 16]
-    requires { length block.now ≡ 64 }
+pub(crate) fn block_words(block: &[u8; 64]) -> [u32; 16]
     ensures { result ≡ block_words block.now }
 {
-    let mut words = [0; 16];
-    for i in 0..16 {
-        words[i] = word_at(block, 4 * i);
-    }
-    words
+    let (words, _) = block.as_chunks();
+    array::from_fn(|i| word(&words[i]))
 }
 
 // A word from those 2, 7, 15 and 16 places before it.
+#[tactic(auto, unfolding(crate::specs::Rounds::next_word))]
 fn next_word(w2: u32, w7: u32, w15: u32, w16: u32) -> u32
     ensures { result ≡ next_word w2 w7 w15 w16 }
 {
-    small_sigma1(w2)
+    small_sigma::<17, 19, 10>(w2)
         .wrapping_add(w7)
-        .wrapping_add(small_sigma0(w15))
+        .wrapping_add(small_sigma::<7, 18, 3>(w15))
         .wrapping_add(w16)
 }
 

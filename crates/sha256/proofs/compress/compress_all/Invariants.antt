@@ -1,6 +1,7 @@
-use Rattle.std.proofs.Common.{◌≡◌}
-use Rattle.sha256.specs.Compress.{compressed_all}
+use Rattle.std.proofs.Common.{◌≡◌, take}
+use Rattle.std.specs.Prelude.{fold}
+use Rattle.sha256.specs.Compress.{compressed}
 use Rattle.sha256.proofs.compress.compress_all.Given as goal
 
-abbrev pub invariant-loop-i : goal.invariant-loop-i
-invariant-loop-i l = l.hash ≡ compressed_all l.i l.initial.hash l.bytes
+abbrev pub invariant-loop-block : goal.invariant-loop-block
+invariant-loop-block l = l.hash ≡ fold compressed l.initial.hash (take l.block-index l.blocks)

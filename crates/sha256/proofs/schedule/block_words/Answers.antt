@@ -1,21 +1,17 @@
-use Rattle.std.proofs.Common.{◌≡◌, ℕ, ◌+◌, ◌*◌, ◌<◌, get_or, set, sym, ◌∙◌, subst, arith}
-use Rattle.std.proofs.lemmas.List.{length-set}
-use Rattle.std.proofs.lemmas.List.FromFn.{fill_by_all}
-use Rattle.std.proofs.lemmas.List.Edits.{fill_by_more}
+use Rattle.std.proofs.Common.{◌≡◌, ℕ, ◌*◌, ◌/◌, List, [], get_or, ap, ◌∙◌, rules}
+use Rattle.std.specs.Simd.{first_chunks}
 use Rattle.blocks.specs.Words.{word_at}
+use Rattle.blocks.proofs.Arrays.{from_fn_is}
 use Rattle.sha256.specs.Compress.{block_words}
+use Rattle.sha256.proofs.Words.{chunk_word}
 use Rattle.sha256.proofs.schedule.block_words.Goals as goal
-
-pub loop-i-preserved : goal.loop-i-preserved
-loop-i-preserved c =
-    let words = c.loop-i.words in
-    let i = c.loop-i.i in
-    let word : ℕ → ℕ = λ k. word_at c.args.block.now (4 * k) in (
-      length-set words i _ ∙ c.loop-i.invariant.0,
-      subst (λ v. (k : ℕ) → k < i + 1 → get_or (set words i v) k 0 ≡ word k) (sym c.word_at.ensures)
-          (fill_by_more word words i 0 (omega arith) c.loop-i.invariant.1),
-    )
 
 pub returns : goal.returns
 unfolding block_words
-returns c = fill_by_all _ c.loop-i.words 16 0 c.loop-i.invariant.0 (λ k h. c.loop-i.invariant.1 k (omega arith))
+returns c =
+    let block = c.args.block.now in
+    let words = c.as_chunks.result.0.now in
+    let chunks = c.as_chunks.ensures.front ∙ ap (λ n. first_chunks 4 (n / 4) block) c.told-block in
+    from_fn_is _ (λ (i : ℕ). word_at block (4 * i)) _ 16
+    (λ i y q l k. (let h : y ≡ word_at (get_or words i []) 0 = search rules in h ∙ ap (λ (ws : List (List ℕ)). word_at (get_or ws i []) 0) chunks ∙ chunk_word block i l c.told-block, search rules))
+    c.from_fn.result 0 c.from_fn.ensures.items

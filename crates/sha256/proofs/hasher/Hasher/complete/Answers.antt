@@ -1,27 +1,28 @@
-use Rattle.std.proofs.Common.{◌≡◌, ◌-◌, ◌++◌, length, take, sym, refl, ap, ◌∙◌, arith, rules}
-use Rattle.std.proofs.lemmas.List.{places, take_all, length-take-le}
+use Rattle.std.proofs.Common.{◌≡◌, ℕ, ◌+◌, ◌-◌, ◌%◌, ◌^◌, ◌++◌, length, take, sym, refl, ap, ◌∙◌, arith, rules}
+use Rattle.std.proofs.lemmas.List.{places, take_all}
 use Rattle.std.proofs.lemmas.Slice.{take-put_mid}
 use borrow.Rule.Slice.PartMut.{put_mid}
 use Rattle.sha256.specs.Compress.{compressed}
-use Rattle.sha256.specs.Inner.{running_of}
-use Rattle.sha256.proofs.Parts.{same, absorbed_block}
+use Rattle.sha256.specs.Running.{Running, absorbed}
+use Rattle.sha256.proofs.Parts.{same, absorbed_block, waiting_is}
 use Rattle.sha256.proofs.hasher.Hasher.complete.Goals as goal
 
 pub returns : goal.returns
 returns c =
-    let self = c.args.self.now in
+    let h = c.self.inside in
     let bytes = c.args.bytes.now in
     let part = c.copy_from_slice.ensures.after in
-    let block = put_mid self.filled (64 - self.filled) self.block c.copy_from_slice.new.self in
-    let long : length (take self.filled self.block) ≡ self.filled = length-take-le _ _ (omega arith) in
+    let start = h.count % 64 in
+    let block = put_mid start (64 - start) h.block c.copy_from_slice.new.self in
+    let before : Running = record { hash = h.hash; rest = take start h.block; count = h.count } in
+    let waiting = waiting_is h.count h.block c.self.told.1 in
+    let seen = ap (λ (r : Running). length r.rest) c.self.view_is in
+    let none : ((h.count + length bytes) % 2 ^ 64) % 64 ≡ 0 = omega (arith, waiting, seen) in
     let size : length block ≡ 64 = search (rules, places) in
-    let filled : block ≡ take self.filled self.block ++ bytes =
+    let filled : block ≡ take start h.block ++ bytes =
     sym (take_all 64 block (omega arith))
-    ∙ take-put_mid self.filled _ self.block _ 64 (omega (arith, ap length part)) (omega arith)
-    ∙ ap (λ x. take self.filled self.block ++ x) part in
-    record {
-      empty = refl;
-      after =
-          same (c.compress.ensures ∙ ap (compressed self.hash) filled) refl refl
-          ∙ sym (absorbed_block (running_of self) bytes (omega (arith, long)));
-    }
+    ∙ take-put_mid start (64 - start) h.block c.copy_from_slice.new.self 64 (omega (arith, ap length part, waiting, seen)) (omega (arith, c.self.told.1))
+    ∙ ap (λ x. take start h.block ++ x) part in
+    same (c.compress.ensures ∙ ap (compressed h.hash) filled) (ap (λ (n : ℕ). take n block) none) refl
+    ∙ sym (absorbed_block before bytes (omega (arith, waiting, seen)))
+    ∙ ap (λ r. absorbed r bytes) c.self.view_is

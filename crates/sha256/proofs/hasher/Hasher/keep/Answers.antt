@@ -1,22 +1,24 @@
-use Rattle.std.proofs.Common.{◌≡◌, ◌++◌, length, take, sym, refl, ap, ◌∙◌, arith, rules}
-use Rattle.std.proofs.lemmas.List.{places, length-take-le}
+use Rattle.std.proofs.Common.{◌≡◌, ℕ, ◌+◌, ◌-◌, ◌%◌, ◌^◌, ◌++◌, length, take, sym, refl, ap, ◌∙◌, arith}
+use borrow.Rule.Slice.PartMut.{put_mid}
 use Rattle.std.proofs.lemmas.Slice.{take-put_mid}
-use Rattle.sha256.specs.Inner.{running_of}
-use Rattle.sha256.proofs.Parts.{same, absorbed_few}
+use Rattle.sha256.specs.Running.{Running, absorbed}
+use Rattle.sha256.proofs.Parts.{same, absorbed_few, waiting_is}
 use Rattle.sha256.proofs.hasher.Hasher.keep.Goals as goal
-
-pub invariant_of-self : goal.invariant_of-self
-invariant_of-self c =
-    let part = ap length c.copy_from_slice.ensures.after in
-    record { room = omega arith; long = search (rules, places) }
 
 pub returns : goal.returns
 returns c =
-    let self = c.args.self.now in
+    let h = c.self.inside in
     let bytes = c.args.bytes.now in
     let part = c.copy_from_slice.ensures.after in
-    let long : length (take self.filled self.block) ≡ self.filled = length-take-le _ _ (omega arith) in
+    let start = h.count % 64 in
+    let stop = start + length bytes in
+    let block = put_mid start (stop - start) h.block c.copy_from_slice.new.self in
+    let before : Running = record { hash = h.hash; rest = take start h.block; count = h.count } in
+    let waiting = waiting_is h.count h.block c.self.told.1 in
+    let seen = ap (λ (r : Running). length r.rest) c.self.view_is in
+    let end : ((h.count + length bytes) % 2 ^ 64) % 64 ≡ stop = omega (arith, waiting, seen) in
     same refl
-    (take-put_mid self.filled _ self.block _ _ (omega (arith, ap length part)) (omega arith) ∙ ap (λ x. take self.filled self.block ++ x) part)
+    (ap (λ (n : ℕ). take n block) end ∙ take-put_mid start (stop - start) h.block c.copy_from_slice.new.self stop (omega (arith, ap length part)) (omega (arith, c.self.told.1)) ∙ ap (λ x. take start h.block ++ x) part)
     refl
-    ∙ sym (absorbed_few (running_of self) bytes (omega (arith, long)))
+    ∙ sym (absorbed_few before bytes (omega (arith, waiting, seen)))
+    ∙ ap (λ r. absorbed r bytes) c.self.view_is
