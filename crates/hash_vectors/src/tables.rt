@@ -1,7 +1,8 @@
 use crate::checksum::Checksum;
 use crate::hashes::{hex, pattern};
 use keyed::{
-    Commitment, HashCommitment, HmacCommitment, HmacFunction, KeyedFunction, Refusal, call_once,
+    Commitment, HashCommitment, HmacCommitment, HmacFunction, KeyedFunction, Numbered, Refusal,
+    call_once,
 };
 use std::io;
 

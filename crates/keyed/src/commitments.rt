@@ -4,26 +4,25 @@ ghost use Rattle.sha256.proofs.Digests.{sha256_length, sha256_bytes, hmac_length
 ghost use Rattle.std.proofs.Common.{lit<};
 
 use crate::commitment::Commitment;
+use crate::numbered::Numbered;
 use crate::refusal::{Refusal, check_length};
 use sha256::{HmacKey, digest};
 
 /// Commitment 1: SHA-256 of the opening bytes followed by the message.
 pub struct HashCommitment;
 
-impl Commitment for HashCommitment {
+impl Numbered for HashCommitment {
     const NUMBER: u8 = 1;
 
-    ghost number = { 1 };
-
-    ghost table = { hash_commitment };
+    ghost NUMBER = { 1 };
 
     ghost small = { lit< tt };
+}
+
+impl Commitment for HashCommitment {
+    ghost table = { hash_commitment };
 
     ghost entries = { λ opening message. record { size = sha256_length (opening ++ message); small = sha256_bytes (opening ++ message) } };
-
-    fn id() -> u8 {
-        Self::NUMBER
-    }
 
     fn commit(opening: &[u8; 16], message: &[u8]) -> Result<[u8; 32], Refusal> {
         check_length(message)?;
@@ -34,29 +33,22 @@ impl Commitment for HashCommitment {
 /// Commitment 2: HMAC-SHA-256 of the message, with the opening bytes as its key.
 pub struct HmacCommitment;
 
-impl Commitment for HmacCommitment {
+impl Numbered for HmacCommitment {
     const NUMBER: u8 = 2;
 
-    ghost number = { 2 };
-
-    ghost table = { hmac_commitment };
+    ghost NUMBER = { 2 };
 
     ghost small = { lit< tt };
+}
+
+impl Commitment for HmacCommitment {
+    ghost table = { hmac_commitment };
 
     ghost entries = { λ opening message. record { size = hmac_length opening message; small = hmac_bytes opening message } };
 
-    fn id() -> u8 {
-        Self::NUMBER
-    }
-
+    #[tactic(auto, using(sha256::proofs::Prepared::mac_is_hmac))]
     fn commit(opening: &[u8; 16], message: &[u8]) -> Result<[u8; 32], Refusal> {
         check_length(message)?;
-        Ok(mac_under(opening, message))
+        Ok(HmacKey::new(opening).mac(message))
     }
-}
-
-fn mac_under(key: &[u8; 16], message: &[u8]) -> [u8; 32]
-    ensures { result ≡ hmac_commitment key.now message.now }
-{
-    HmacKey::new(key).mac(message)
 }

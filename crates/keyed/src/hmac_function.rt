@@ -4,6 +4,7 @@ ghost use Rattle.std.proofs.Common.{lit<};
 ghost use Rattle.sha256.proofs.Digests.{hmac_front_bytes};
 
 use crate::function::KeyedFunction;
+use crate::numbered::Numbered;
 use crate::prepared::PreparedHmac;
 use crate::refusal::{Refusal, check_length};
 use sha256::HmacKey;
@@ -11,24 +12,22 @@ use sha256::HmacKey;
 /// Keyed function 2: the first 16 bytes of HMAC-SHA-256.
 pub struct HmacFunction;
 
-impl KeyedFunction for HmacFunction {
+impl Numbered for HmacFunction {
     const NUMBER: u8 = 2;
 
-    type Prepared = PreparedHmac;
+    ghost NUMBER = { 2 };
 
-    ghost number = { 2 };
+    ghost small = { lit< tt };
+}
+
+impl KeyedFunction for HmacFunction {
+    type Prepared = PreparedHmac;
 
     ghost table = { hmac_table };
 
     ghost made_from = { λ p. p.key };
 
-    ghost small = { lit< tt };
-
     ghost entries = { unfold hmac_table in hmac_front_bytes };
-
-    fn id() -> u8 {
-        Self::NUMBER
-    }
 
     fn prepare(key: &[u8; 16]) -> PreparedHmac {
         PreparedHmac {
@@ -44,11 +43,9 @@ impl KeyedFunction for HmacFunction {
 }
 
 // The first half of the authentication code.
+#[tactic(auto, using(sha256::proofs::Prepared::mac_is_hmac), unfolding(crate::specs::Tables::hmac_table))]
 fn half_mac(key: &PreparedHmac, input: &[u8]) -> [u8; 16]
     ensures { result ≡ hmac_table key.now.key input.now }
 {
-    let mac = key.hmac.mac(input);
-    let mut half = [0; 16];
-    half.copy_from_slice(&mac[0..16]);
-    half
+    *key.hmac.mac(input).first_chunk().unwrap()
 }
