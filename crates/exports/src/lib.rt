@@ -3,5 +3,7 @@
 #![tactic(auto)]
 
 mod hashing;
+mod refusal;
 
-pub use hashing::tender_sha256;
+pub use hashing::{tender_sha256, write_digest};
+pub use refusal::Refusal;
