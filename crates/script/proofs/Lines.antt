@@ -1,19 +1,45 @@
 -- The first line, and the rest. Assumes nothing.
-use Rattle.std.proofs.Common.{◌≡◌, ℕ, zero, suc, ◌<◌, ◌≤◌, Bool, true, false, cond, eqb, List, [], ◌∷◌, ◌++◌, length, get_or, take, drop, sym, refl, ap, ◌∙◌, ap₂, arith}
-use Rattle.std.specs.List.{flat_map, AllByRecursion}
-use Rattle.std.proofs.lemmas.Bool.{eq-eqb, ne_eqb, eqb-true, eqb-false, cond-true, cond-false, cond_both}
+use Rattle.std.proofs.Common.{◌≡◌, ℕ, zero, suc, ◌+◌, ◌-◌, min, ◌<◌, ◌≤◌, Bool, true, false, cond, eqb, List, [], ◌∷◌, ◌++◌, length, get_or, take, sym, refl, ap, ◌∙◌, ap₂, arith}
+use Rattle.std.specs.List.{flat_map, AllByRecursion, IsFirstMatchOrLen}
+use Rattle.std.proofs.lemmas.List.{get_or_append_left, length-append}
+use Rattle.std.proofs.lemmas.Bool.{false≢true, ne_eqb, eqb-true, eqb-false, cond-false, cond_both}
 use Rattle.script.specs.Lines.{line_feed, in_front, lines_of}
 use Rattle.script.specs.Laws.{with_feed, ended, LinesAreScript}
 
--- n bytes stand before the first line feed, or before the end
-pub lines_first : (bs : List ℕ) (n : ℕ) → 0 < length bs → n ≤ length bs → ((k : ℕ) → k < n → get_or bs k 0 ≡ line_feed → ⊥) → (n < length bs → get_or bs n 0 ≡ line_feed) → lines_of bs ≡ take n bs ∷ lines_of (drop (suc n) bs)
+abbrev pub is_feed : ℕ → Bool
+is_feed b = eqb b line_feed
+
+onto : (b : ℕ) (test : Bool) (xs ys : List ℕ) → b ∷ cond test xs ys ≡ cond test (b ∷ xs) (b ∷ ys)
+onto b true xs ys = refl
+onto b false xs ys = refl
+
+-- a piece whose inner bytes are no line feeds, and its last one is, unless nothing follows
+lines_piece : (piece after : List ℕ) (i : ℕ) → length piece ≡ suc i → ((k : ℕ) → k < i → is_feed (get_or piece k 0) ≡ false) → (0 < length after → is_feed (get_or piece i 0) ≡ true) → lines_of (piece ++ after) ≡ cond (is_feed (get_or piece i 0)) (take i piece) piece ∷ lines_of after
 unfolding lines_of in_front
-lines_first [] n some within before found = absurd (omega arith)
-lines_first (b ∷ bs) zero some within before found = cond-true (eqb b line_feed) _ _ (eq-eqb b line_feed (found (omega arith)))
-lines_first (b ∷ []) (suc n) some within before found = let none : n ≡ 0 = omega arith in rw none (cond-false (eqb b line_feed) _ _ (ne_eqb b line_feed (before 0 (omega arith))))
-lines_first (b ∷ c ∷ bs) (suc n) some within before found =
-    cond-false (eqb b line_feed) _ _ (ne_eqb b line_feed (before 0 (omega arith)))
-    ∙ ap (in_front b) (lines_first (c ∷ bs) n (omega arith) (omega arith) (λ k low. before (suc k) (omega arith)) (λ low. found (omega arith)))
+lines_piece [] after i size inner last = absurd (omega arith)
+lines_piece (b ∷ []) after zero size inner last = at (is_feed b) after last
+  where
+    at : (test : Bool) (after : List ℕ) → (0 < length after → test ≡ true) → cond test ([] ∷ lines_of after) (in_front b (lines_of after)) ≡ cond test [] (b ∷ []) ∷ lines_of after
+    at true after last = refl
+    at false [] last = refl
+    at false (c ∷ after) last = absurd (false≢true (last (omega arith)))
+lines_piece (b ∷ []) after (suc i) size inner last = absurd (omega arith)
+lines_piece (b ∷ c ∷ piece) after zero size inner last = absurd (omega arith)
+lines_piece (b ∷ c ∷ piece) after (suc i) size inner last =
+    cond-false (is_feed b) _ _ (inner 0 (omega arith))
+    ∙ ap (in_front b) (lines_piece (c ∷ piece) after i (omega arith) (λ k h. inner (suc k) (omega arith)) last)
+    ∙ ap (λ l. l ∷ lines_of after) (onto b (is_feed (get_or (c ∷ piece) i 0)) _ _)
+
+-- the piece up to the first line feed, without that feed, is the first line
+pub line_of_piece : (all piece after line : List ℕ) (i : ℕ) → 0 < length all → all ≡ piece ++ after → length piece ≡ min (i + 1) (length all) → IsFirstMatchOrLen is_feed all i → line ≡ cond (is_feed (get_or piece (length piece - 1) 0)) (take (length piece - 1) piece) piece → lines_of all ≡ line ∷ lines_of after
+line_of_piece all piece after line i some cut size first stripped =
+    let size_all : length all ≡ length piece + length after = ap length cut ∙ length-append piece after in
+    let same : (k : ℕ) → k < length piece → get_or all k 0 ≡ get_or piece k 0 = λ k h. ap (λ l. get_or l k 0) cut ∙ get_or_append_left piece after 0 k h in
+    ap lines_of cut
+    ∙ lines_piece piece after (length piece - 1) (omega (arith, size))
+    (λ k h. ap is_feed (sym (same k (omega (arith, size)))) ∙ first.0 k 0 (omega arith) (omega (arith, size)))
+    (λ h. let last : length piece - 1 ≡ i = omega (arith, size) in rw last (ap is_feed (sym (same i (omega (arith, size)))) ∙ first.1 (omega (arith, size)) 0))
+    ∙ ap (λ l. l ∷ lines_of after) (sym stripped)
 
 abbrev pub NoFeed : List ℕ → Type 0
 NoFeed = AllByRecursion (λ b. b ≡ line_feed → ⊥)
@@ -59,6 +85,7 @@ none (b ∷ bs) =
     cond_both (eqb b line_feed) ([] ∷ lines_of bs) (in_front b (lines_of bs)) (AllByRecursion NoFeed) (λ _. (tt, none bs)) (λ ne. front_none b (lines_of bs) (eqb-false b line_feed ne) (none bs))
 
 pub lines_are_script : LinesAreScript
+unfolding LinesAreScript
 lines_are_script script = (whole script, none script)
 
 front_few : (b : ℕ) (lines : List (List ℕ)) → length (in_front b lines) ≤ suc (length lines)

@@ -1,10 +1,9 @@
 -- What a script's output is. Assumes nothing.
-use Rattle.std.specs.Prelude.{ℕ, ◌+◌, cond, List, [], ◌∷◌, ◌++◌, length, nat_le}
+use Rattle.std.specs.Prelude.{ℕ, ◌+◌, cond, Err, List, [], ◌∷◌, ◌++◌, length, nat_le}
 use Rattle.script.specs.Lines.{lines_of}
 use Rattle.script.specs.Commands.{command_of}
 use Rattle.script.specs.Answers.{answer_to, answer_line}
-use Rattle.script.specs.declared.answer.Answer.TheVariants.{Refused}
-use Rattle.script.specs.declared.answer.Refusal.TheVariants.{TooLong}
+use Rattle.script.specs.declared.refusal.Refusal.TheVariants.{TooLong}
 
 -- the answers to lines, of which the first has this number
 unfoldable pub answers_from : ℕ → List (List ℕ) → List ℕ
@@ -17,4 +16,4 @@ most_bytes = 16384
 
 -- each line answered under its number, from 1; a script of more bytes is refused as a whole
 abbrev pub output_of : List ℕ → List ℕ
-output_of input = cond (nat_le (length input) most_bytes) (answers_from 1 (lines_of input)) (answer_line 0 (Refused TooLong))
+output_of input = cond (nat_le (length input) most_bytes) (answers_from 1 (lines_of input)) (answer_line 0 (Err TooLong))

@@ -1,38 +1,65 @@
-ghost use Rattle.std.specs.Prelude.{◌≡◌, ◌&&◌};
-ghost use Rattle.script.specs.Commands.{deal_of, command_of};
+ghost use Rattle.std.specs.Prelude.{◌≡◌, ◌-◌, cond};
+ghost use Rattle.script.specs.Commands.{is_digit, deal_of, command_of};
+ghost use Rattle.script.specs.Answers.{answer_to};
+
+use crate::answer::Answer;
+use crate::refusal::Refusal;
+use sharing::Scheme;
 
 // What a line asks for.
-#[derive(Clone, Copy)]
+#[derive(Clone, Copy, Debug, PartialEq, Eq)]
 pub(crate) enum Command {
     // Deal for `n` units with threshold `t`.
     Deal { n: u8, t: u8 },
-    // A line of another form.
-    Unknown,
 }
 
-impl Command {
+impl<'a> TryFrom<&'a [u8]> for Command {
+    type Error = Refusal;
+
+    ghost try_from_gives = { λ line command. command ≡ command_of line.now };
+
     // A line is a letter, a blank, and what the letter wants.
-    pub(crate) fn read(line: &[u8]) -> Command
-        ensures { result ≡ command_of line.now }
-    {
+    fn try_from(line: &'a [u8]) -> Result<Command, Refusal> {
         match line {
             [letter, b' ', rest @ ..] => match *letter as char {
                 'd' => read_deal(rest),
-                _ => Command::Unknown,
+                _ => Err(Refusal::NoCommand),
             },
-            _ => Command::Unknown,
+            _ => Err(Refusal::NoCommand),
         }
     }
 }
 
-fn read_deal(rest: &[u8]) -> Command
+impl Command {
+    pub(crate) fn answer(self) -> Result<Answer, Refusal>
+        ensures { result ≡ answer_to (Ok self) }
+    {
+        match self {
+            Command::Deal { n, t } => {
+                let scheme = Scheme::new(n, t)?;
+                Ok(Answer::Dealt(scheme.shares()))
+            }
+        }
+    }
+}
+
+fn read_deal(rest: &[u8]) -> Result<Command, Refusal>
     ensures { result ≡ deal_of rest.now }
 {
     match rest {
-        [n, b' ', t] if n.is_ascii_digit() && t.is_ascii_digit() => Command::Deal {
-            n: *n - b'0',
-            t: *t - b'0',
-        },
-        _ => Command::Unknown,
+        [n, b' ', t] => Ok(Command::Deal {
+            n: digit(*n)?,
+            t: digit(*t)?,
+        }),
+        _ => Err(Refusal::NoCommand),
+    }
+}
+
+fn digit(byte: u8) -> Result<u8, Refusal>
+    ensures { result ≡ cond (is_digit byte) (Ok (byte - 48)) (Err Refusal.NoCommand) }
+{
+    match byte {
+        b'0'..=b'9' => Ok(byte - b'0'),
+        _ => Err(Refusal::NoCommand),
     }
 }

@@ -4,7 +4,7 @@
 
 mod answer;
 mod command;
-mod line;
 mod machine;
+mod refusal;
 
 pub use machine::{LIMIT, run};
