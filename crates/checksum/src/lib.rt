@@ -1,0 +1,62 @@
+//! Checksums of many answers, which the two programs of vectors print.
+
+#![tactic(auto)]
+
+ghost use Rattle.std.specs.Prelude.{◌≡◌, ℕ};
+ghost use Rattle.checksum.specs.Sums.{sum_with, sum_after, number_of};
+
+use std::marker::Model;
+
+/// A checksum of numbers in their order.
+#[derive(Clone, Copy, Debug, Default, PartialEq, Eq)]
+pub struct Checksum(u32);
+
+impl Model for Checksum {
+    ghost Value = { ℕ };
+
+    ghost view = { λ checksum. checksum.0 };
+
+    ghost inverse = { λ sum. record { 0 = sum } };
+}
+
+impl Checksum {
+    /// The checksum of no numbers.
+    pub fn new() -> Checksum
+        ensures { result ≡ 0 }
+    {
+        Checksum(0)
+    }
+
+    pub fn value(self) -> u32
+        ensures { result ≡ self }
+    {
+        self.0
+    }
+
+    pub fn add(&mut self, number: u32)
+        ensures { self.new ≡ sum_with self.old number }
+    {
+        *self = self.with(number);
+    }
+
+    pub fn add_bytes(&mut self, bytes: &[u8])
+        ensures { self.new ≡ sum_after self.old bytes.now }
+    {
+        *self = bytes
+            .iter()
+            .fold(*self, |sum, byte| sum.with(u32::from(*byte)));
+    }
+
+    /// An answer as it is, a refusal as its number past all answers.
+    pub fn add_answer(&mut self, answer: Result<u32, u8>)
+        ensures { self.new ≡ sum_with self.old (number_of answer) }
+    {
+        self.add(answer.unwrap_or_else(|refusal| 1_000 + u32::from(refusal)));
+    }
+
+    fn with(self, number: u32) -> Checksum
+        ensures { result ≡ sum_with self number }
+    {
+        Checksum(self.0.wrapping_mul(31).wrapping_add(number))
+    }
+}
