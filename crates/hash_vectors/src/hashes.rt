@@ -1,25 +1,7 @@
-use crate::checksum::Checksum;
+use checksum::Checksum;
 use exports::tender_sha256;
 use sha256::{HmacKey, digest};
-use std::alloc::{AllocError, Global};
 use std::io;
-
-pub(crate) fn hex(heap: Global, bytes: &[u8]) -> Result<String, AllocError> {
-    let mut text = String::new(heap);
-    for byte in bytes {
-        text.push(digit(*byte / 16))?;
-        text.push(digit(*byte % 16))?;
-    }
-    Ok(text)
-}
-
-fn digit(x: u8) -> char {
-    match x {
-        0..=9 => (b'0' + x) as char,
-        10..=15 => (b'a' + (x - 10)) as char,
-        _ => '?',
-    }
-}
 
 // The bytes that the sweeps are made on.
 pub(crate) fn pattern<const N: usize>() -> [u8; N] {
@@ -36,9 +18,10 @@ pub(crate) fn pattern<const N: usize>() -> [u8; N] {
 fn cuts() -> u32 {
     let bytes = pattern::<200>();
     let mut sum = Checksum::new();
-    for length in 0..201 {
-        for cut in 0..length + 1 {
-            sum.add_bytes(&digest(&bytes[0..cut], &bytes[cut..length]));
+    for length in 0..=bytes.len() {
+        for cut in 0..=length {
+            let (prefix, message) = bytes[..length].split_at(cut);
+            sum.add_bytes(&digest(prefix, message));
         }
     }
     sum.value()
@@ -48,41 +31,35 @@ fn cuts() -> u32 {
 fn codes() -> u32 {
     let bytes = pattern::<140>();
     let mut sum = Checksum::new();
-    for key_length in 0..141 {
-        let key = HmacKey::new(&bytes[0..key_length]);
-        for length in 0..141 {
-            sum.add_bytes(&key.mac(&bytes[0..length]));
+    for key_length in 0..=bytes.len() {
+        let key = HmacKey::new(&bytes[..key_length]);
+        for length in 0..=bytes.len() {
+            sum.add_bytes(&key.mac(&bytes[..length]));
         }
     }
     sum.value()
 }
 
 // What the call for C answers, given the first bytes of a buffer, and what it leaves in all of it.
-fn add_buffer(sum: &mut Checksum, message: &[u8], buffer: &mut [u8], room: usize) {
-    if room <= buffer.len() {
-        sum.add(tender_sha256(message, &mut buffer[0..room]));
-    }
-    sum.add_bytes(buffer);
-}
-
 fn buffers() -> u32 {
     let bytes = pattern::<64>();
     let mut sum = Checksum::new();
-    for room in 0..65 {
+    for room in 0..=bytes.len() {
         let mut buffer = [255; 64];
-        add_buffer(&mut sum, &bytes, &mut buffer, room);
+        sum.add(tender_sha256(&bytes, &mut buffer[..room]));
+        sum.add_bytes(&buffer);
     }
     sum.value()
 }
 
 fn print_digest(rt: &HostRuntime, message: &[u8]) -> io::Result<()> {
     let length = message.len();
-    let text = hex(rt.alloc(), &digest(&[], message))?;
+    let text = hex::encode(rt.alloc(), digest(&[], message))?;
     println!(rt; "sha256 {length} {text}")
 }
 
 fn print_code(rt: &HostRuntime, key: &[u8], message: &[u8]) -> io::Result<()> {
-    let text = hex(rt.alloc(), &HmacKey::new(key).mac(message))?;
+    let text = hex::encode(rt.alloc(), HmacKey::new(key).mac(message))?;
     println!(rt; "hmac {text}")
 }
 

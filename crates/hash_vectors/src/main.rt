@@ -3,7 +3,6 @@
 
 #![tactic(auto)]
 
-mod checksum;
 mod hashes;
 mod tables;
 
