@@ -4,9 +4,7 @@ use Rattle.std.proofs.lemmas.Fmt.{decimal_digit, decimal_step, decimal_by_steps}
 use Rattle.std.proofs.ByRecursion.{All-append, All-push}
 use Rattle.std.proofs.lemmas.Bool.{cond_both, le-leb}
 use Rattle.sharing.specs.Masks.{lawful, shares}
-use Rattle.sharing.specs.Refusals.{number_of as sharing_number}
-use Rattle.sharing.specs.declared.refusal.Refusal as sharing
-use Rattle.sharing.specs.declared.refusal.Refusal.TheVariants.{Parameters, Rank, Mask, Group, Quorum}
+use Rattle.sharing.specs.declared.refusal.Refusal.TheVariants.{Parameters}
 use Rattle.sharing.proofs.Order.{shares_few}
 use Rattle.script.specs.Lines.{line_feed, lines_of}
 use Rattle.script.specs.Commands.{command_of}
@@ -18,7 +16,7 @@ use Rattle.script.specs.declared.command.Command.TheVariants.{Deal}
 use Rattle.script.specs.declared.answer.Answer.{Answer}
 use Rattle.script.specs.declared.answer.Answer.TheVariants.{Dealt}
 use Rattle.script.specs.declared.refusal.Refusal.{Refusal}
-use Rattle.script.specs.declared.refusal.Refusal.TheVariants.{Sharing, TooLong, NoCommand}
+use Rattle.script.specs.declared.refusal.Refusal.TheVariants.{Sharing}
 use Rattle.script.proofs.Lines.{NoFeed, lines_cons, lines_few}
 
 pub decimal_digits : DecimalDigits
@@ -33,18 +31,9 @@ abbrev Writable : Result Answer Refusal → Type 0
 Writable (Ok (Dealt count)) = count < 2 ^ 64
 Writable (Err refusal) = number_of refusal < 2 ^ 64
 
-small : (refusal : sharing.Refusal) → sharing_number refusal < 2 ^ 64
-small Parameters = omega arith
-small Rank = omega arith
-small Mask = omega arith
-small Group = omega arith
-small Quorum = omega arith
-
 writable : (command : Result Command Refusal) → Writable (answer_to command)
 writable (Ok (Deal n t)) = cond_both (lawful n t) (Ok (Dealt (shares n t))) (Err (Sharing Parameters)) Writable (λ h. omega (arith, shares_few n t h)) (λ _. omega arith)
-writable (Err (Sharing refusal)) = small refusal
-writable (Err TooLong) = omega arith
-writable (Err NoCommand) = omega arith
+writable (Err refusal) = grind arith
 
 -- an answer's line without its line feed
 abbrev plain : ℕ → Result Answer Refusal → List ℕ
