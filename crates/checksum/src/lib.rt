@@ -27,18 +27,21 @@ impl Checksum {
         Checksum(0)
     }
 
+    /// The checksum as a number.
     pub fn value(self) -> u32
         ensures { result ≡ self }
     {
         self.0
     }
 
+    /// Takes in a number.
     pub fn add(&mut self, number: u32)
         ensures { self.new ≡ sum_with self.old number }
     {
         *self = self.with(number);
     }
 
+    /// Takes in bytes, each as a number.
     pub fn add_bytes(&mut self, bytes: &[u8])
         ensures { self.new ≡ sum_after self.old bytes.now }
     {
