@@ -23,7 +23,8 @@ impl Refusal {
     }
 }
 
-// Whether a table has an entry for the input.
+// Whether the input is not too long. Each call asks it: a method of the trait that asks once for all would leave a public
+// call without the limit beside it.
 pub(crate) fn check_length(input: &[u8]) -> Result<(), Refusal>
     ensures { result ≡ length_answer (length input.now) }
 {

@@ -28,7 +28,8 @@ pub(crate) fn compress(hash: &mut [u32; 8], block: &[u8; 64])
 {
     let mut w = block_words(block);
     let mut s = Working::from(*hash);
-    // A first call before a loop without the test ran slower: with one call, its rounds are inlined.
+    // With one call its rounds are inlined. With a call before a loop that needs no test, it ran at 0.81 of OpenSSL's speed, and
+    // in some runs below the bar of 0.8.
     for (j, k) in round_constants().iter().enumerate() {
         s.sixteen_rounds(k, &w);
         if j < 3 {
