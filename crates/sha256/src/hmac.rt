@@ -40,6 +40,7 @@ impl HmacKey {
 }
 
 // The key in a block, a longer one by its digest.
+#[tactic(auto, unfolding(crate::specs::Hmac::key_block))]
 fn key_block(key: &[u8]) -> [u8; 64]
     ensures { result ≡ key_block key.now }
 {
@@ -71,6 +72,7 @@ fn midstate(block: &[u8; 64], pad: u8) -> [u32; 8]
 }
 
 // The digest of a block, which left the hash, and of bytes after it.
+#[tactic(auto, unfolding(crate::specs::Hmac::digest_after))]
 fn digest_after(hash: [u32; 8], bytes: &[u8]) -> [u8; 32]
     ensures { result ≡ digest_after hash bytes.now }
 {
