@@ -1,5 +1,5 @@
 -- The checksum of numbers in their order. Assumes nothing.
-use Rattle.std.specs.Prelude.{ℕ, ◌+◌, ◌*◌, ◌%◌, ◌^◌, Result, Ok, Err, List}
+use Rattle.std.specs.Prelude.{ℕ, ◌+◌, ◌*◌, ◌%◌, ◌^◌, List}
 use Rattle.std.specs.List.{fold}
 
 -- the checksum after one number more
@@ -10,7 +10,6 @@ sum_with sum number = (31 * sum + number) % 2 ^ 32
 abbrev pub sum_after : ℕ → List ℕ → ℕ
 sum_after = fold sum_with
 
--- an answer counts as it is, and a refusal as its number past all answers
-abbrev pub number_of : Result ℕ ℕ → ℕ
-number_of (Ok answer) = answer
-number_of (Err refusal) = 1000 + refusal
+-- a refusal's number, past all answers
+abbrev pub past_answers : ℕ → ℕ
+past_answers number = 1000 + number

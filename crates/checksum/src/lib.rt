@@ -3,7 +3,7 @@
 #![tactic(auto)]
 
 ghost use Rattle.std.specs.Prelude.{◌≡◌, ℕ};
-ghost use Rattle.checksum.specs.Sums.{sum_with, sum_after, number_of};
+ghost use Rattle.checksum.specs.Sums.{sum_with, sum_after, past_answers};
 
 use std::marker::Model;
 
@@ -50,11 +50,11 @@ impl Checksum {
             .fold(*self, |sum, byte| sum.with(u32::from(*byte)));
     }
 
-    /// An answer as it is, a refusal as its number past all answers.
-    pub fn add_answer(&mut self, answer: Result<u32, u8>)
-        ensures { self.new ≡ sum_with self.old (number_of answer) }
+    /// Takes in a refusal, as its number past all answers.
+    pub fn add_refusal(&mut self, number: u8)
+        ensures { self.new ≡ sum_with self.old (past_answers number) }
     {
-        self.add(answer.unwrap_or_else(|refusal| 1_000 + u32::from(refusal)));
+        self.add(1_000 + u32::from(number));
     }
 
     fn with(self, number: u32) -> Checksum

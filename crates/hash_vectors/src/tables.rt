@@ -36,7 +36,7 @@ fn lengths<T: AsSlice<u8> + Drop, F: Fn(&[u8]) -> Result<T, Refusal>>(call: F) -
     for length in 0..=bytes.len() {
         match call(&bytes[..length]) {
             Ok(answer) => sum.add_bytes(answer.as_slice()),
-            Err(refusal) => sum.add_answer(Err(refusal.number())),
+            Err(refusal) => sum.add_refusal(refusal.number()),
         }
     }
     sum.value()

@@ -27,7 +27,10 @@ fn answers<T: Into<u32>, F: Fn(u8, u8) -> Result<T, Refusal>>(call: F) -> u32
 }
 
 fn add_answer<T: Into<u32>>(sum: &mut Checksum, answer: Result<T, Refusal>) {
-    sum.add_answer(answer.map(T::into).map_err(Refusal::number));
+    match answer {
+        Ok(answer) => sum.add(answer.into()),
+        Err(refusal) => sum.add_refusal(refusal.number()),
+    }
 }
 
 fn masks_and_ranks(scheme: &Scheme) -> u32 {
