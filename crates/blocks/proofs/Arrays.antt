@@ -1,8 +1,8 @@
 -- Arrays that the library makes by calls of a closure which leaves what it captures as it is. Assumes nothing.
-use Rattle.std.proofs.Common.{◌≡◌, ℕ, zero, suc, ◌+◌, ◌<◌, ◌≤◌, List, [], ◌∷◌, ◌++◌, map, length, get_or, sym, refl, ap, ◌∙◌, subst, ⊎_elim, arith}
+use Rattle.std.proofs.Common.{◌≡◌, ℕ, zero, suc, ◌+◌, ◌<◌, ◌≤◌, List, map, length, get_or, sym, ap, ◌∙◌, subst, ⊎_elim, arith}
 use Rattle.std.specs.Array.{IsFromFnResultFrom, IsFromFnResult, MapsFrom, IsMapOf}
 use denote.Param.Members.{Mut, Called}
-use Rattle.std.specs.List.{range_with_len, flat_map}
+use Rattle.std.specs.List.{range_with_len}
 use Rattle.std.proofs.lemmas.Bool.{cases_lt}
 use Rattle.std.proofs.lemmas.List.{ext_get_or, get_or-map, length-map}
 use Rattle.std.proofs.lemmas.List.FromFn.{fill_by_all}
@@ -36,8 +36,3 @@ module _ {F A B : Type 0} (g : Mut F (A × Unit {0}) B) (v : A → B) (f : F) (c
   array_map_is xs ys n c long r =
       ext_get_or (v c) ys (map v xs) (r.long ∙ sym (length-map xs v ∙ long))
       (λ k h. each_mapped xs ys 0 n r.each c (v c) k (omega arith) (omega (arith, r.long)) ∙ sym (get_or-map v xs k c (v c) (omega (arith, r.long))))
-
--- the pieces that a function gives, joined
-pub flat_map_map : {X Y : Type 0} (f : X → List Y) (xs : List X) → flat_map (λ x. x) (map f xs) ≡ flat_map f xs
-flat_map_map f [] = refl
-flat_map_map f (x ∷ xs) = ap (λ ys. f x ++ ys) (flat_map_map f xs)

@@ -1,3 +1,3 @@
-//! Bytes, words and bits: definitions and laws that several crates share. It has no code of its own.
+//! Bytes, words, bits and arrays: definitions and laws for the crates that hash. It has no code of its own.
 
 #![tactic(auto)]

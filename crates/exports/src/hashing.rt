@@ -14,7 +14,7 @@ pub fn write_digest(message: &[u8], buffer: &mut [u8]) -> Result<(), Refusal>
     Ok(())
 }
 
-/// `write_digest` with a number for its answer: 0, or 14 where the buffer is too short.
+/// `write_digest` with a number for its answer, as C wants it: 0, or 14 where the buffer is too short.
 pub fn tender_sha256(message: &[u8], buffer: &mut [u8]) -> u32
     ensures answer { result ≡ digest_answer buffer.old }
     ensures after { buffer.new ≡ digest_written message.now buffer.old }

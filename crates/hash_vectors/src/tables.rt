@@ -1,8 +1,7 @@
 use crate::hashes::pattern;
 use checksum::Checksum;
 use keyed::{
-    Commitment, HashCommitment, HmacCommitment, HmacFunction, KeyedFunction, Numbered, Refusal,
-    call_once,
+    Commitment, HashCommitment, HmacCommitment, HmacFunction, KeyedFunction, Refusal, call_once,
 };
 use std::convert::AsSlice;
 use std::io;
@@ -20,10 +19,7 @@ fn print_answer<T: AsSlice<u8> + Drop>(
             let text = hex::encode(rt.alloc(), bytes)?;
             println!(rt; "{name} {number} {length} {text}")
         }
-        Err(refusal) => {
-            let refusal = refusal.number();
-            println!(rt; "{name} {number} {length} refused {refusal}")
-        }
+        Err(refusal) => println!(rt; "{name} {number} {length} {refusal}"),
     }
 }
 
@@ -42,39 +38,57 @@ fn lengths<T: AsSlice<u8> + Drop, F: Fn(&[u8]) -> Result<T, Refusal>>(call: F) -
     sum.value()
 }
 
-fn print_lengths(rt: &HostRuntime) -> io::Result<()> {
-    let secret = pattern::<16>();
-    let key = HmacFunction::prepare(&secret);
-    let function = HmacFunction::id();
-    let sum = lengths(|input| HmacFunction::call(&key, input));
-    println!(rt; "function {function} lengths {sum}")?;
-    let hash = HashCommitment::id();
-    let sum = lengths(|message| HashCommitment::commit(&secret, message));
-    println!(rt; "commitment {hash} lengths {sum}")?;
-    let hmac = HmacCommitment::id();
-    let sum = lengths(|message| HmacCommitment::commit(&secret, message));
-    println!(rt; "commitment {hmac} lengths {sum}")
+fn print_function<K: KeyedFunction>(
+    rt: &HostRuntime,
+    key: &[u8; 16],
+    input: &[u8],
+) -> io::Result<()> {
+    let answer = call_once::<K>(key, input);
+    print_answer(rt, "function", K::NUMBER, input.len(), answer)
+}
+
+fn print_commitment<C: Commitment>(
+    rt: &HostRuntime,
+    opening: &[u8; 16],
+    message: &[u8],
+) -> io::Result<()> {
+    let answer = C::commit(opening, message);
+    print_answer(rt, "commitment", C::NUMBER, message.len(), answer)
+}
+
+fn print_function_lengths<K: KeyedFunction>(rt: &HostRuntime, key: &[u8; 16]) -> io::Result<()> {
+    let number = K::id();
+    let prepared = K::prepare(key);
+    let sum = lengths(|input| K::call(&prepared, input));
+    println!(rt; "function {number} lengths {sum}")
+}
+
+fn print_commitment_lengths<C: Commitment>(rt: &HostRuntime, opening: &[u8; 16]) -> io::Result<()> {
+    let number = C::id();
+    let sum = lengths(|message| C::commit(opening, message));
+    println!(rt; "commitment {number} lengths {sum}")
 }
 
 fn print_inputs(rt: &HostRuntime, input: &[u8]) -> io::Result<()> {
     let secret = pattern::<16>();
-    let length = input.len();
-    let answer = call_once::<HmacFunction>(&secret, input);
-    print_answer(rt, "function", HmacFunction::NUMBER, length, answer)?;
-    let answer = HashCommitment::commit(&secret, input);
-    print_answer(rt, "commitment", HashCommitment::NUMBER, length, answer)?;
-    let answer = HmacCommitment::commit(&secret, input);
-    print_answer(rt, "commitment", HmacCommitment::NUMBER, length, answer)
+    print_function::<HmacFunction>(rt, &secret, input)?;
+    print_commitment::<HashCommitment>(rt, &secret, input)?;
+    print_commitment::<HmacCommitment>(rt, &secret, input)
 }
 
 pub(crate) fn print_all(rt: &HostRuntime) -> io::Result<()> {
     print_inputs(rt, b"")?;
     print_inputs(rt, b"lot 7: 1200")?;
-    let input = b"what do ya want for nothing?";
-    let answer = call_once::<HmacFunction>(b"Jefe\0\0\0\0\0\0\0\0\0\0\0\0", input);
-    print_answer(rt, "function", HmacFunction::NUMBER, input.len(), answer)?;
-    print_lengths(rt)?;
-    let zeros = [0; 65_537];
+    print_function::<HmacFunction>(
+        rt,
+        b"Jefe\0\0\0\0\0\0\0\0\0\0\0\0",
+        b"what do ya want for nothing?",
+    )?;
+    let secret = pattern::<16>();
+    print_function_lengths::<HmacFunction>(rt, &secret)?;
+    print_commitment_lengths::<HashCommitment>(rt, &secret)?;
+    print_commitment_lengths::<HmacCommitment>(rt, &secret)?;
+    let zeros = vec![in rt.alloc(); 0; 65_537]?;
     print_inputs(rt, &zeros[..65_536])?;
     print_inputs(rt, &zeros)
 }

@@ -4,23 +4,20 @@ ghost use Rattle.sha256.proofs.Digests.{sha256_length, sha256_bytes, hmac_length
 ghost use Rattle.std.proofs.Common.{lit<};
 
 use crate::commitment::Commitment;
-use crate::numbered::Numbered;
 use crate::refusal::{Refusal, check_length};
 use sha256::{HmacKey, digest};
 
 /// Commitment 1: SHA-256 of the opening bytes followed by the message.
 pub struct HashCommitment;
 
-impl Numbered for HashCommitment {
+impl Commitment for HashCommitment {
     const NUMBER: u8 = 1;
 
     ghost NUMBER = { 1 };
 
-    ghost small = { lit< tt };
-}
-
-impl Commitment for HashCommitment {
     ghost table = { hash_commitment };
+
+    ghost small = { lit< tt };
 
     ghost entries = { λ opening message. record { size = sha256_length (opening ++ message); small = sha256_bytes (opening ++ message) } };
 
@@ -33,16 +30,14 @@ impl Commitment for HashCommitment {
 /// Commitment 2: HMAC-SHA-256 of the message, with the opening bytes as its key.
 pub struct HmacCommitment;
 
-impl Numbered for HmacCommitment {
+impl Commitment for HmacCommitment {
     const NUMBER: u8 = 2;
 
     ghost NUMBER = { 2 };
 
-    ghost small = { lit< tt };
-}
-
-impl Commitment for HmacCommitment {
     ghost table = { hmac_commitment };
+
+    ghost small = { lit< tt };
 
     ghost entries = { λ opening message. record { size = hmac_length opening message; small = hmac_bytes opening message } };
 

@@ -4,7 +4,6 @@ ghost use Rattle.std.proofs.Common.{lit<};
 ghost use Rattle.sha256.proofs.Digests.{hmac_front_bytes};
 
 use crate::function::KeyedFunction;
-use crate::numbered::Numbered;
 use crate::prepared::PreparedHmac;
 use crate::refusal::{Refusal, check_length};
 use sha256::HmacKey;
@@ -12,20 +11,18 @@ use sha256::HmacKey;
 /// Keyed function 2: the first 16 bytes of HMAC-SHA-256.
 pub struct HmacFunction;
 
-impl Numbered for HmacFunction {
+impl KeyedFunction for HmacFunction {
     const NUMBER: u8 = 2;
 
     ghost NUMBER = { 2 };
 
-    ghost small = { lit< tt };
-}
-
-impl KeyedFunction for HmacFunction {
     type Prepared = PreparedHmac;
 
     ghost table = { hmac_table };
 
     ghost made_from = { λ p. p.key };
+
+    ghost small = { lit< tt };
 
     ghost entries = { unfold hmac_table in hmac_front_bytes };
 

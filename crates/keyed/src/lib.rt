@@ -6,7 +6,6 @@ mod commitment;
 mod commitments;
 mod function;
 mod hmac_function;
-mod numbered;
 mod prepared;
 mod refusal;
 
@@ -14,6 +13,5 @@ pub use commitment::Commitment;
 pub use commitments::{HashCommitment, HmacCommitment};
 pub use function::{KeyedFunction, call_once};
 pub use hmac_function::HmacFunction;
-pub use numbered::Numbered;
 pub use prepared::PreparedHmac;
 pub use refusal::Refusal;

@@ -1,6 +1,9 @@
-ghost use Rattle.std.specs.Prelude.{◌≡◌, length};
-ghost use Rattle.keyed.specs.Refusals.{number_of};
+ghost use Rattle.std.specs.Prelude.{◌≡◌, Some, length};
+ghost use Rattle.keyed.specs.Refusals.{number_of, text_of};
 ghost use Rattle.keyed.specs.Answers.{length_answer};
+
+use std::error::Error;
+use std::fmt;
 
 // The longest input of a keyed function, and the longest message of a commitment.
 const LONGEST: usize = 65_536;
@@ -23,8 +26,19 @@ impl Refusal {
     }
 }
 
-// Whether the input is not too long. Each call asks it: a method of the trait that asks once for all would leave a public
-// call without the limit beside it.
+impl fmt::Display for Refusal {
+    ghost output = { λ refusal. Some (text_of refusal) };
+
+    fn fmt<W: fmt::Write>(&self, f: &mut fmt::Formatter<W>) -> fmt::Result {
+        let number = self.number();
+        write!(f, "refused {number}")
+    }
+}
+
+impl Error for Refusal {}
+
+// Whether the input is not too long. Each call asks it by itself: if a method of the trait asked for all, what it calls would
+// be a public method that has no limit.
 pub(crate) fn check_length(input: &[u8]) -> Result<(), Refusal>
     ensures { result ≡ length_answer (length input.now) }
 {

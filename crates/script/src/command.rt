@@ -21,7 +21,7 @@ impl<'a> TryFrom<&'a [u8]> for Command {
     // A line is a letter, a blank, and what the letter wants.
     fn try_from(line: &'a [u8]) -> Result<Command, Refusal> {
         match line {
-            [letter, b' ', rest @ ..] => match *letter as char {
+            [letter, b' ', rest @ ..] => match char::from(*letter) {
                 'd' => read_deal(rest),
                 _ => Err(Refusal::NoCommand),
             },
@@ -55,6 +55,7 @@ fn read_deal(rest: &[u8]) -> Result<Command, Refusal>
     }
 }
 
+// `char::to_digit` would answer a u32, to be narrowed again.
 fn digit(byte: u8) -> Result<u8, Refusal>
     ensures { result ≡ cond (is_digit byte) (Ok (byte - 48)) (Err Refusal.NoCommand) }
 {

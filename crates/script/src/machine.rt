@@ -24,12 +24,13 @@ pub fn run(heap: Global, script: &[u8]) -> Result<Vec<u8>, AllocError>
 {
     let mut output = Vec::new(heap);
     if script.len() > LIMIT {
-        push_answer(&mut output, heap, 0, Err(Refusal::TooLong))?;
+        // The whole script is refused under the number 0.
+        push_answer(&mut output, 0, Err(Refusal::TooLong))?;
         return Ok(output);
     }
     for (number, piece) in (1..).zip(script.split_inclusive(ends_line)) {
         let line = piece.strip_suffix(b"\n").unwrap_or(piece);
-        push_answer(&mut output, heap, number, answer(line))?;
+        push_answer(&mut output, number, answer(line))?;
     }
     Ok(output)
 }
@@ -48,13 +49,12 @@ fn answer(line: &[u8]) -> Result<Answer, Refusal>
 
 fn push_answer(
     output: &mut Vec<u8>,
-    heap: Global,
     number: usize,
     answer: Result<Answer, Refusal>,
 ) -> Result<(), AllocError>
     ensures { OnOk result (output.new.items ≡ output.old.items ++ answer_line number answer) }
 {
-    let line = output_line(heap, number, answer)?;
+    let line = output_line(*output.allocator(), number, answer)?;
     output.extend_from_slice(line.as_bytes())
 }
 

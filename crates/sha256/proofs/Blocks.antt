@@ -88,14 +88,6 @@ all_add (suc m) n hash xs =
     ∙ all_add m n (compressed hash (take 64 xs)) (drop 64 xs)
     ∙ ap (compressed_all n (compressed_all m (compressed hash (take 64 xs)) (drop 64 xs))) (drop-drop (64 * m) 64 xs ∙ ap (λ i. drop i xs) at)
 
-pub all_none : (hash bytes : List ℕ) → hash ≡ compressed_all 0 hash bytes
-unfolding compressed_all
-all_none hash bytes = refl
-
-pub all_more : (n : ℕ) (hash bytes : List ℕ) → compressed_all (n + 1) hash bytes ≡ compressed (compressed_all n hash bytes) (take 64 (drop (64 * n) bytes))
-unfolding compressed_all
-all_more n hash bytes = all_add n 1 hash bytes
-
 -- blocks one after the other, as chunks of the bytes
 pub all_chunks : (n : ℕ) (hash bytes : List ℕ) → fold compressed hash (first_chunks 64 n bytes) ≡ compressed_all n hash bytes
 unfolding compressed_all

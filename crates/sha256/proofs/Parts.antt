@@ -14,8 +14,11 @@ pub same : {a b c d : List ℕ} {m n : ℕ} → a ≡ b → c ≡ d → m ≡ n 
 same p q r = cc
 
 -- as many bytes wait as the count is past whole blocks
-pub waiting_is : (n : ℕ) (block : List ℕ) → length block ≡ 64 → length (take (n % 64) block) ≡ n % 64
-waiting_is n block h = length-take-le (n % 64) block (omega arith)
+pub waiting_is : (hash block : List ℕ) (count : ℕ) (r : Running) → length block ≡ 64 → ◌≡◌ {A = Running} (record { hash = hash; rest = take (count % 64) block; count = count }) r
+    → (length (take (count % 64) block) ≡ count % 64) × (length r.rest ≡ count % 64)
+waiting_is hash block count r long is =
+    let size = length-take-le (count % 64) block (omega arith) in
+    (size, ap (λ (s : Running). length s.rest) (sym is) ∙ size)
 
 -- bytes taken in that leave a hash and a rest
 abbrev pub taken : Running → List ℕ → List ℕ → List ℕ → Running

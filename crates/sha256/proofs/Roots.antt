@@ -1,14 +1,10 @@
 -- The roots are the greatest, by one test over the primes. Assumes nothing.
-use Rattle.std.proofs.Common.{◌≡◌, ℕ, zero, suc, ◌+◌, ◌*◌, ◌^◌, ◌<◌, Bool, true, ◌&&◌, ltb, leb, List, [], ◌∷◌, length, get_or, refl, arith}
+use Rattle.std.proofs.Common.{◌≡◌, ℕ, ◌+◌, ◌*◌, ◌^◌, ◌<◌, Bool, true, ◌&&◌, ltb, leb, length, refl, arith}
 use Rattle.std.proofs.lemmas.Bool.{and_parts, leb-true, ltb-true}
 use Rattle.std.specs.List.{list_all}
+use Rattle.std.proofs.lemmas.List.Sums.{AllPass-from_list_all}
 use Rattle.sha256.specs.Primes.{is_prime, primes, raised, greatest, cube_root, square_root}
 use Rattle.sha256.specs.Laws.{Root, RootsGreatest, PrimesCounted}
-
-all_at : (f : ℕ → Bool) (xs : List ℕ) → list_all f xs ≡ true → (i : ℕ) → i < length xs → f (get_or xs i 0) ≡ true
-all_at f [] t i h = absurd (omega arith)
-all_at f (x ∷ xs) t zero h = (and_parts (f x) (list_all f xs) t).0
-all_at f (x ∷ xs) t (suc i) h = all_at f xs (and_parts (f x) (list_all f xs) t).1 i (omega arith)
 
 is_root : ℕ → ℕ → ℕ → Bool
 is_root k x y = leb (y ^ k) x && ltb x ((y + 1) ^ k)
@@ -38,6 +34,6 @@ many i h = omega (arith, primes_counted)
 pub roots_greatest : RootsGreatest
 unfolding RootsGreatest
 roots_greatest = (
-  λ i h. root_is 3 _ _ (all_at (λ p. is_root 3 (p * 2 ^ 96) (cube_root (p * 2 ^ 96))) primes cubes_test i (many i h)),
-  λ i h. root_is 2 _ _ (all_at (λ p. is_root 2 (p * 2 ^ 64) (square_root (p * 2 ^ 64))) primes squares_test i (many i (omega arith))),
+  λ i h. root_is 3 _ _ (AllPass-from_list_all (λ p. is_root 3 (p * 2 ^ 96) (cube_root (p * 2 ^ 96))) primes cubes_test i 0 (many i h)),
+  λ i h. root_is 2 _ _ (AllPass-from_list_all (λ p. is_root 2 (p * 2 ^ 64) (square_root (p * 2 ^ 64))) primes squares_test i 0 (many i (omega arith))),
 )

@@ -28,8 +28,8 @@ pub(crate) fn compress(hash: &mut [u32; 8], block: &[u8; 64])
 {
     let mut w = block_words(block);
     let mut s = Working::from(*hash);
-    // With one call its rounds are inlined. With a call before a loop that needs no test, it ran at 0.81 of OpenSSL's speed, and
-    // in some runs below the bar of 0.8.
+    // Without the test the rounds would be called twice, before the loop and in it: no plainer, and slower, at 0.81 of OpenSSL's
+    // speed against 0.84, since they are not inlined then.
     for (j, k) in round_constants().iter().enumerate() {
         s.sixteen_rounds(k, &w);
         if j < 3 {

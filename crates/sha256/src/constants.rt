@@ -90,6 +90,7 @@ const INITIAL: [u32; 8] = [
     0x5be0_cd19,
 ];
 
+#[tactic(auto, unfolding(crate::specs::Primes::is_prime, crate::specs::Primes::primes, crate::specs::Primes::raised, crate::specs::Primes::greatest, crate::specs::Primes::cube_root, crate::specs::Primes::round_constants))]
 pub(crate) fn round_constants() -> &'static [[u32; 16]; 4]
     ensures { result.now ≡ first_chunks 16 4 constants }
 {
@@ -97,6 +98,7 @@ pub(crate) fn round_constants() -> &'static [[u32; 16]; 4]
 }
 
 // The hash before the first block.
+#[tactic(auto, unfolding(crate::specs::Primes::is_prime, crate::specs::Primes::primes, crate::specs::Primes::raised, crate::specs::Primes::greatest, crate::specs::Primes::square_root, crate::specs::Primes::initial))]
 pub(crate) fn initial() -> [u32; 8]
     ensures { result ≡ start }
 {

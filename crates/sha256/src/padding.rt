@@ -1,7 +1,7 @@
 ghost use Rattle.std.specs.Prelude.{◌≡◌, ◌∷◌, replicate};
 ghost use Rattle.sha256.specs.Hash.{zeros_after, length_field};
 
-// A one bit and zeros, as many as a padding has at most: a padding's front is a slice of it, since nothing here allocates.
+// A one bit and zeros, as many as a padding has at most. A padding takes a slice of it: nothing has to be filled.
 pub(crate) fn one_and_zeros() -> [u8; 64]
     ensures { result ≡ 128 ∷ replicate 63 0 }
 {

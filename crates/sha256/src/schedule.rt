@@ -33,8 +33,8 @@ fn next_word(w2: u32, w7: u32, w15: u32, w16: u32) -> u32
         .wrapping_add(w16)
 }
 
-// The next sixteen words, in the place of the last: a copy would cost more than the words do. A loop would count four indices
-// modulo 16.
+// The next sixteen words, in the place of the last: a copy would cost more than the words do. They are written out, since a
+// loop would count four indices by hand, modulo 16.
 pub(crate) fn next_words(w: &mut [u32; 16])
     ensures { w.new ≡ next_window w.old }
 {

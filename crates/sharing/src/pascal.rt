@@ -31,6 +31,7 @@ pub fn binomial(a: u8, b: u8) -> Result<u8, Refusal>
     Ok(choose_of(a, b))
 }
 
+#[tactic(auto, using(crate::proofs::Binomials::table_is), unfolding(crate::specs::Choose::choose, crate::proofs::Finite::all_below, crate::proofs::Binomials::triangle))]
 pub(crate) fn choose_of(a: u8, b: u8) -> u8
     requires { (a ≤ 8) × (b ≤ 8) }
     ensures { result ≡ choose a b }

@@ -1,4 +1,4 @@
-ghost use Rattle.std.specs.Prelude.{◌≡◌, ℕ, true, ◌&&◌, length, nat_lt, slice_index};
+ghost use Rattle.std.specs.Prelude.{◌≡◌, ℕ, true, ◌&&◌, nat_lt, slice_index};
 ghost use Rattle.std.specs.Bool.{then_some};
 ghost use Rattle.std.specs.Result.{result_map_both};
 ghost use Rattle.sharing.specs.Masks.{lawful, is_within, is_share_mask, shares, mask_of, rank_of};
@@ -16,10 +16,10 @@ use crate::refusal::Refusal;
 pub struct Scheme {
     n: u8,
     t: u8,
-    // the share masks by rank, and zeros after them: an array, since an ArrayVec is not Copy and nothing here allocates
+    // the share masks by rank, and zeros after them: an array, since a scheme is Copy, which an ArrayVec is not, and nothing
+    // here allocates
     masks: [u8; 70],
     ghost allowed: { lawful n t ≡ true },
-    ghost room: { length masks ≡ 70 },
     ghost ordered: { (rank : ℕ) → slice_index masks rank ≡ mask_of n t rank },
 }
 
@@ -150,11 +150,11 @@ fn is_share_mask(n: u8, t: u8, mask: u8) -> bool
     is_group_of(mask, n, n - t + 1)
 }
 
-// The share masks in increasing order, and zeros after them. With at most 8 units a mask is a byte.
+// The share masks in increasing order, and zeros after them. With at most 8 units a mask is a byte, so that all bytes are
+// looked at. There is no scheme yet, so n and t come by themselves.
 fn share_masks(n: u8, t: u8) -> [u8; 70]
     requires { lawful n t ≡ true }
-    ensures room { length result ≡ 70 }
-    ensures ordered { (rank : ℕ) → slice_index result rank ≡ mask_of n t rank }
+    ensures { (rank : ℕ) → slice_index result rank ≡ mask_of n t rank }
 {
     let mut masks = [0; 70];
     for (rank, mask) in (0..=u8::MAX)

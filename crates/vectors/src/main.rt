@@ -45,14 +45,18 @@ fn masks_and_ranks(scheme: &Scheme) -> u32 {
 fn units(scheme: &Scheme) -> u32 {
     over_pairs(|sum, place, rank| {
         sum.add(u32::from(scheme.has_rank(place, rank)));
+        // What is printed fixes the number that stands for none.
         let at = scheme.share_at(place, rank);
         sum.add(at.map_or(1_000_000, |at| (at & 0xffff) as u32));
     })
 }
 
-fn print_scheme(rt: &HostRuntime, n: u8, t: u8, scheme: &Scheme) -> io::Result<()> {
-    let masks = masks_and_ranks(scheme);
-    let units = units(scheme);
+fn print_scheme(rt: &HostRuntime, n: u8, t: u8) -> io::Result<()> {
+    let Ok(scheme) = Scheme::new(n, t) else {
+        return Ok(());
+    };
+    let masks = masks_and_ranks(&scheme);
+    let units = units(&scheme);
     let split = answers(|quorum, rank| scheme.falls_to(quorum, rank));
     let equal = answers(|a, b| scheme.hold_equal_shares(a, b));
     println!(rt; "sharing {n} {t} masks {masks} units {units} split {split} equal {equal}")
@@ -65,9 +69,7 @@ fn main(rt: HostRuntime) -> io::Result<()> {
     println!(rt; "sharing binomials {binomials} parameters {parameters}")?;
     for n in 2..=8 {
         for t in 2..=8 {
-            if let Ok(scheme) = Scheme::new(n, t) {
-                print_scheme(&rt, n, t, &scheme)?;
-            }
+            print_scheme(&rt, n, t)?;
         }
     }
     Ok(())

@@ -40,8 +40,8 @@ loop-rank-preserved c =
     let place = low c in
     rw (length_push c.loop-rank.yielded (c.in-Some.rank, c.in-Some.mask), t.1) (filled_more c.loop-rank.masks (share_masks c.args.n c.args.t) (length c.loop-rank.yielded) c.in-Some.mask t.0 (omega (arith, t, place)) t.2 c.loop-rank.invariant)
 
-pub returns-clause-ordered : goal.returns-clause-ordered
-returns-clause-ordered c =
+pub returns : goal.returns
+returns c =
     let masks = share_masks c.args.n c.args.t in
-    let end = YieldsList-end (road (goal.at.returns-clause-ordered c).After-into_iter-rank-iterator) c.loop-rank.yielded _ c.loop-rank.yielded_by _ _ c.in-None.is c.next.ensures.steps in
+    let end = YieldsList-end (road (goal.at.returns c).After-into_iter-rank-iterator) c.loop-rank.yielded _ c.loop-rank.yielded_by _ _ c.in-None.is c.next.ensures.steps in
     filled_all c.loop-rank.masks masks (length c.loop-rank.yielded) (omega (arith, end.1, length-enumerate_from 0 masks)) c.loop-rank.invariant

@@ -15,16 +15,15 @@ returns c =
     let start = c.waiting-start.result in
     let block = put_mid start (64 - start) h.block c.copy_from_slice.new.self in
     let before : Running = record { hash = h.hash; rest = take (h.count % 64) h.block; count = h.count } in
-    let waiting = waiting_is h.count h.block c.self.told.1 in
-    let seen = ap (λ (r : Running). length r.rest) c.self.view_is in
+    let waiting = waiting_is h.hash h.block h.count c.args.self.now c.self.told.1 c.self.view_is in
     let told = c.waiting-start.ensures in
-    let from : start ≡ h.count % 64 = omega (arith, waiting, seen, told.value) in
-    let none : ((h.count + length bytes) % 2 ^ 64) % 64 ≡ 0 = omega (arith, waiting, seen) in
+    let from : start ≡ h.count % 64 = omega (arith, told.value) in
+    let none : ((h.count + length bytes) % 2 ^ 64) % 64 ≡ 0 = omega arith in
     let size : length block ≡ 64 = search (rules, places) in
     let filled : block ≡ take (h.count % 64) h.block ++ bytes =
     sym (take_all 64 block (omega arith))
-    ∙ take-put_mid start (64 - start) h.block c.copy_from_slice.new.self 64 (omega (arith, ap length part, waiting, seen)) (omega (arith, c.self.told.1))
+    ∙ take-put_mid start (64 - start) h.block c.copy_from_slice.new.self 64 (omega (arith, ap length part)) (omega (arith, c.self.told.1))
     ∙ ap₂ (λ k x. take k h.block ++ x) from part in
     same (c.compress.ensures ∙ ap (compressed h.hash) filled) (ap (λ (n : ℕ). take n block) none) refl
-    ∙ sym (absorbed_block before bytes (omega (arith, waiting, seen)))
+    ∙ sym (absorbed_block before bytes (omega arith))
     ∙ ap (λ r. absorbed r bytes) c.self.view_is

@@ -14,13 +14,12 @@ returns c =
     let stop = start + length bytes in
     let block = put_mid start (stop - start) h.block c.copy_from_slice.new.self in
     let before : Running = record { hash = h.hash; rest = take (h.count % 64) h.block; count = h.count } in
-    let waiting = waiting_is h.count h.block c.self.told.1 in
-    let seen = ap (λ (r : Running). length r.rest) c.self.view_is in
+    let waiting = waiting_is h.hash h.block h.count c.args.self.now c.self.told.1 c.self.view_is in
     let told = c.waiting-start.ensures in
-    let from : start ≡ h.count % 64 = omega (arith, waiting, seen, told.value) in
+    let from : start ≡ h.count % 64 = omega (arith, told.value) in
     let end : ((h.count + length bytes) % 2 ^ 64) % 64 ≡ stop = omega (arith, from) in
     same refl
     (ap (λ (n : ℕ). take n block) end ∙ take-put_mid start (stop - start) h.block c.copy_from_slice.new.self stop (omega (arith, ap length part)) (omega (arith, c.self.told.1)) ∙ ap₂ (λ k x. take k h.block ++ x) from part)
     refl
-    ∙ sym (absorbed_few before bytes (omega (arith, waiting, seen)))
+    ∙ sym (absorbed_few before bytes (omega arith))
     ∙ ap (λ r. absorbed r bytes) c.self.view_is

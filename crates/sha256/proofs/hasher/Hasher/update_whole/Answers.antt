@@ -9,10 +9,9 @@ use Rattle.sha256.proofs.hasher.Hasher.update_whole.Goals as goal
 pub keep-requires : goal.keep-requires
 keep-requires c =
     let h = c.self.inside in
-    let waiting = waiting_is h.count h.block c.self.told.1 in
-    let seen = ap (λ (r : Running). length r.rest) c.self.view_is in
+    let waiting = waiting_is h.hash h.block h.count c.args.self.now c.self.told.1 c.self.view_is in
     let size = c.as_chunks.ensures.back_len in
-    let none : (h.count + (length c.args.bytes.now - length c.as_chunks.result.1.now)) % 2 ^ 64 % 64 ≡ 0 = omega (arith, waiting, seen) in
+    let none : (h.count + (length c.args.bytes.now - length c.as_chunks.result.1.now)) % 2 ^ 64 % 64 ≡ 0 = omega arith in
     rw none (omega arith)
 
 pub returns : goal.returns
@@ -24,13 +23,12 @@ returns c =
     let n = length bytes / 64 in
     let size = c.as_chunks.ensures.back_len in
     let count = (h.count + (length bytes - length rest)) % 2 ^ 64 in
-    let waiting = waiting_is h.count h.block c.self.told.1 in
-    let seen = ap (λ (r : Running). length r.rest) c.self.view_is in
-    let none : count % 64 ≡ 0 = omega (arith, waiting, seen) in
+    let waiting = waiting_is h.hash h.block h.count c.args.self.now c.self.told.1 c.self.view_is in
+    let none : count % 64 ≡ 0 = omega arith in
     let before : Running = record { hash = c.compress_all.new.hash; rest = take (count % 64) h.block; count = count } in
     let first : Running = record { hash = h.hash; rest = take (h.count % 64) h.block; count = h.count } in
     let empty : take (count % 64) h.block ≡ [] = ap (λ (k : ℕ). take k h.block) none in
-    let zero : h.count % 64 ≡ 0 = omega (arith, waiting, seen) in
+    let zero : h.count % 64 ≡ 0 = omega arith in
     let begun : take (h.count % 64) h.block ≡ [] = ap (λ (k : ℕ). take k h.block) zero in
     let few : length (take (count % 64) h.block) + length rest < 64 = omega (arith, ap length empty) in
     let hash = c.compress_all.ensures ∙ ap (fold compressed h.hash) c.as_chunks.ensures.front ∙ all_chunks n h.hash bytes in
