@@ -1,10 +1,6 @@
 -- The lines of a script. Assumes nothing.
-use Rattle.std.proofs.Common.{◌≡◌, ℕ, zero, suc, ◌+◌, ◌-◌, min, ◌<◌, ◌≤◌, Bool, true, false, cond, eqb, List, [], ◌∷◌, ◌++◌, length, get_or, take, drop, Option, Some, None, MatchOption, Bor, sym, refl, ap, ◌∙◌, arith}
+use Rattle.std.proofs.Common.{◌≡◌, ℕ, zero, suc, ◌+◌, ◌-◌, min, ◌<◌, ◌≤◌, Bool, true, false, cond, eqb, List, [], ◌∷◌, ◌++◌, length, get_or, take, sym, refl, ap, ◌∙◌, arith}
 use Rattle.std.specs.List.{flat_map, AllByRecursion, IsFirstMatchOrLen}
-use Rattle.std.specs.Option.{unwrap_or}
-use Rattle.std.specs.Cmp.Lexicographic.{pointwise}
-use Rattle.std.proofs.Math.Bool.{and-true}
-use Rattle.std.proofs.lemmas.Bool.{cond-true, cond-false}
 use Rattle.std.proofs.lemmas.List.{get_or_append_left, length-append}
 use Rattle.script.specs.Lines.{line_feed, in_front, lines_of}
 use Rattle.script.specs.Laws.{with_feed, ended, LinesAreScript}
@@ -24,33 +20,16 @@ lines_piece (b ∷ c ∷ piece) after (suc i) size inner last =
     let others = lines_piece (c ∷ piece) after i (omega arith) (λ k h. inner (suc k) (omega arith)) last in
     grind arith
 
-ends : (l : List ℕ) (n : ℕ) → length l ≡ suc n → pointwise eqb (drop n l) (line_feed ∷ []) ≡ is_feed (get_or l n 0)
-ends [] n size = absurd (omega arith)
-ends (b ∷ []) zero size = and-true (is_feed b)
-ends (b ∷ c ∷ l) zero size = absurd (omega arith)
-ends (b ∷ l) (suc n) size = ends l n (omega arith)
-
--- what `strip_suffix` says of a line feed
-abbrev IsStripped : List ℕ → Option (Bor (List ℕ)) → Type 0
-IsStripped l r =
-    MatchOption r (pointwise eqb (drop (length l - 1) l) (line_feed ∷ []) ≡ false)
-    (λ x. (pointwise eqb (drop (length l - 1) l) (line_feed ∷ []) ≡ true) × (x.now ≡ take (length l - 1) l) × (length x.now + 1 ≡ length l))
-
-stripped : (piece : Bor (List ℕ)) (r : Option (Bor (List ℕ))) → 0 < length piece.now → IsStripped piece.now r → (unwrap_or r piece).now ≡ cond (is_feed (get_or piece.now (length piece.now - 1) 0)) (take (length piece.now - 1) piece.now) piece.now
-stripped piece None some h = sym (cond-false _ _ _ (sym (ends piece.now (length piece.now - 1) (omega arith)) ∙ h))
-stripped piece (Some x) some h = h.1 ∙ sym (cond-true _ _ _ (sym (ends piece.now (length piece.now - 1) (omega arith)) ∙ h.0))
-
 -- the piece up to the first line feed, without that feed, is the first line
-pub line_of_piece : (all after : List ℕ) (piece line : Bor (List ℕ)) (r : Option (Bor (List ℕ))) (i : ℕ) → 0 < length all → all ≡ piece.now ++ after → length piece.now ≡ min (i + 1) (length all) → IsFirstMatchOrLen is_feed all i → IsStripped piece.now r → line ≡ unwrap_or r piece → lines_of all ≡ line.now ∷ lines_of after
-line_of_piece all after piece line r i some cut size first strip is =
-    let bytes = piece.now in
-    let same : (k : ℕ) → k < length bytes → get_or all k 0 ≡ get_or bytes k 0 = λ k h. ap (λ l. get_or l k 0) cut ∙ get_or_append_left bytes after 0 k h in
-    let size_all : length all ≡ length bytes + length after = ap length cut ∙ length-append bytes after in
+pub line_of_piece : (all piece after line : List ℕ) (i : ℕ) → 0 < length all → all ≡ piece ++ after → length piece ≡ min (i + 1) (length all) → IsFirstMatchOrLen is_feed all i → line ≡ cond (is_feed (get_or piece (length piece - 1) 0)) (take (length piece - 1) piece) piece → lines_of all ≡ line ∷ lines_of after
+line_of_piece all piece after line i some cut size first stripped =
+    let size_all : length all ≡ length piece + length after = ap length cut ∙ length-append piece after in
+    let same : (k : ℕ) → k < length piece → get_or all k 0 ≡ get_or piece k 0 = λ k h. ap (λ l. get_or l k 0) cut ∙ get_or_append_left piece after 0 k h in
     ap lines_of cut
-    ∙ lines_piece bytes after (length bytes - 1) (omega (arith, size))
+    ∙ lines_piece piece after (length piece - 1) (omega (arith, size))
     (λ k h. ap is_feed (sym (same k (omega (arith, size)))) ∙ first.0 k 0 (omega arith) (omega (arith, size)))
-    (λ h. let last : length bytes - 1 ≡ i = omega (arith, size) in rw last (ap is_feed (sym (same i (omega (arith, size)))) ∙ first.1 (omega (arith, size)) 0))
-    ∙ ap (λ l. l ∷ lines_of after) (sym (ap (λ b. b.now) is ∙ stripped piece r (omega (arith, size)) strip))
+    (λ h. let last : length piece - 1 ≡ i = omega (arith, size) in rw last (ap is_feed (sym (same i (omega (arith, size)))) ∙ first.1 (omega (arith, size)) 0))
+    ∙ ap (λ l. l ∷ lines_of after) (sym stripped)
 
 abbrev pub NoFeed : List ℕ → Type 0
 NoFeed = AllByRecursion (λ b. b ≡ line_feed → ⊥)

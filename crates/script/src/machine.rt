@@ -1,4 +1,4 @@
-ghost use Rattle.std.specs.Prelude.{◌≡◌, ◌==◌, ◌++◌, IfOk, OnOk, string_bytes};
+ghost use Rattle.std.specs.Prelude.{◌≡◌, ◌-◌, ◌==◌, cond, take, length, slice_index, ◌++◌, IfOk, OnOk, string_bytes};
 ghost use Rattle.script.specs.Lines.{line_feed};
 ghost use Rattle.script.specs.Commands.{command_of};
 ghost use Rattle.script.specs.Answers.{answer_to, answer_line};
@@ -29,8 +29,7 @@ pub fn run(heap: Global, script: &[u8]) -> Result<Vec<u8>, AllocError>
         return Ok(output);
     }
     for (number, piece) in (1..).zip(script.split_inclusive(ends_line)) {
-        let line = piece.strip_suffix(b"\n").unwrap_or(piece);
-        push_answer(&mut output, number, answer(line))?;
+        push_answer(&mut output, number, answer(line_of(piece)))?;
     }
     Ok(output)
 }
@@ -39,6 +38,16 @@ fn ends_line(byte: &u8) -> bool
     ensures { result ≡ (byte.now == line_feed) }
 {
     *byte == b'\n'
+}
+
+// A piece of a script without the line feed that may end it.
+fn line_of(piece: &[u8]) -> &[u8]
+    ensures { result.now ≡ cond (slice_index piece.now (length piece.now - 1) == line_feed) (take (length piece.now - 1) piece.now) piece.now }
+{
+    match piece {
+        [line @ .., b'\n'] => line,
+        _ => piece,
+    }
 }
 
 fn answer(line: &[u8]) -> Result<Answer, Refusal>

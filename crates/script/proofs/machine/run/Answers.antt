@@ -20,7 +20,7 @@ loop-number-preserved c =
     let counted = c.in-Some.ensures.steps.0 in
     let split = c.in-Some.ensures.steps.1 in
     let first = (split.1.2 is_feed (always_returns_same _ _ _ (λ a r q k. (search rules, search rules)))).1 in
-    let cut = line_of_piece _ _ c.in-Some.piece _ _ split.1.0 split.2 split.0 split.1.1 first c.strip_suffix.ensures.cases c.unwrap_or-line.ensures in
+    let cut = line_of_piece _ _ _ _ split.1.0 split.2 split.0 split.1.1 first c.line_of.ensures in
     record {
       few = omega (arith, simp length-append at (ap length split.0));
       answered = step _ _ _ _ _ _ _ _ _ _ counted.0 counted.1 c.answer.ensures c.in_ok-push_answer-2.ensures cut c.loop-number.invariant.answered;
