@@ -6,14 +6,6 @@ use Rattle.sha256.proofs.Blocks.{all_chunks}
 use Rattle.sha256.proofs.Parts.{same, of_blocks, absorbed_few, waiting_is}
 use Rattle.sha256.proofs.hasher.Hasher.update_whole.Goals as goal
 
-pub keep-requires : goal.keep-requires
-keep-requires c =
-    let h = c.self.inside in
-    let waiting = waiting_is h.hash h.block h.count c.args.self.now c.self.told.1 c.self.view_is in
-    let size = c.as_chunks.ensures.back_len in
-    let none : (h.count + (length c.args.bytes.now - length c.as_chunks.result.1.now)) % 2 ^ 64 % 64 ≡ 0 = omega arith in
-    rw none (omega arith)
-
 pub returns : goal.returns
 returns c =
     let h = c.self.inside in
