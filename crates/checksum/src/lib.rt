@@ -50,7 +50,7 @@ impl Checksum {
             .fold(*self, |sum, byte| sum.with(u32::from(*byte)));
     }
 
-    /// Takes in a refusal, as its number past all answers.
+    /// Takes in a refusal, as its number past all answers: what the programs print fixes how.
     pub fn add_refusal(&mut self, number: u8)
         ensures { self.new ≡ sum_with self.old (past_answers number) }
     {
