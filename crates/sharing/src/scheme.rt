@@ -61,7 +61,7 @@ impl Scheme {
         ensures value { result ≡ rank_answer self.now.n self.now.t mask }
         ensures sum { RankIsSum }
     {
-        if !is_share_mask(self.n, self.t, mask) {
+        if !self.is_share_mask(mask) {
             return Err(Refusal::Mask);
         }
         Ok(self.binomial_sum(mask))
@@ -119,6 +119,13 @@ impl Scheme {
         (rank < self.shares()).then(|| self.masks[usize::from(rank)])
     }
 
+    // Whether the mask is a share mask, which has a rank.
+    fn is_share_mask(&self, mask: u8) -> bool
+        ensures { result ≡ is_share_mask self.now.n self.now.t mask }
+    {
+        is_group_of(mask, self.n, self.n - self.t + 1)
+    }
+
     // The rank: C(p1, 1) + C(p2, 2) + .. over the mask's ones, at the bits p1 < p2 < ..
     fn binomial_sum(&self, mask: u8) -> u8
         requires { is_share_mask self.now.n self.now.t mask ≡ true }
@@ -142,14 +149,6 @@ impl Scheme {
     }
 }
 
-// Whether the mask is a share mask, which has a rank.
-fn is_share_mask(n: u8, t: u8, mask: u8) -> bool
-    requires { lawful n t ≡ true }
-    ensures { result ≡ is_share_mask n t mask }
-{
-    is_group_of(mask, n, n - t + 1)
-}
-
 // The share masks in increasing order, and zeros after them. With at most 8 units a mask is a byte, so that all bytes are
 // looked at. There is no scheme yet, so n and t come by themselves.
 fn share_masks(n: u8, t: u8) -> [u8; 70]
@@ -158,7 +157,7 @@ fn share_masks(n: u8, t: u8) -> [u8; 70]
 {
     let mut masks = [0; 70];
     for (rank, mask) in (0..=u8::MAX)
-        .filter(|mask| is_share_mask(n, t, *mask))
+        .filter(|mask| is_group_of(*mask, n, n - t + 1))
         .enumerate()
     {
         masks[rank] = mask;
