@@ -8,7 +8,7 @@ ghost use Rattle.checksum.specs.Sums.{sum_with, sum_after, past_answers};
 use std::marker::Model;
 
 /// A checksum of numbers in their order.
-#[derive(Clone, Copy, Debug, PartialEq, Eq)]
+#[derive(Clone, Copy, Debug, Default, PartialEq, Eq)]
 pub struct Checksum(u32);
 
 impl Model for Checksum {

@@ -1,4 +1,4 @@
--- The number of each refusal. Assumes nothing.
+-- The number and the text of each refusal. Assumes nothing.
 use Rattle.std.specs.Prelude.{ℕ, List, ◌++◌, codes, decimal}
 use Rattle.exports.specs.declared.refusal.Refusal.{Refusal}
 use Rattle.exports.specs.declared.refusal.Refusal.TheVariants.{ShortBuffer}

@@ -14,7 +14,8 @@ pub fn write_digest(message: &[u8], buffer: &mut [u8]) -> Result<(), Refusal>
     Ok(())
 }
 
-/// `write_digest` with a number for its answer, as C wants it: 0, or 14 where the buffer is too short.
+/// `write_digest` with a number for its answer, as C wants it: 0, or 14 where the buffer is too short. It says by itself what is
+/// left in the buffer, for those who read no other contract.
 pub fn tender_sha256(message: &[u8], buffer: &mut [u8]) -> u32
     ensures answer { result ≡ digest_answer buffer.old }
     ensures after { buffer.new ≡ digest_written message.now buffer.old }
@@ -22,7 +23,8 @@ pub fn tender_sha256(message: &[u8], buffer: &mut [u8]) -> u32
     code(write_digest(message, buffer))
 }
 
-// C has no `Result`: an answer is 0, or the number of the refusal.
+// C has no `Result`: an answer is 0, or the number of the refusal. It is made here and not in the static library, on which no
+// crate can stand, so that the tests run what C gets.
 fn code(answer: Result<(), Refusal>) -> u32
     ensures { result ≡ code_of answer }
 {

@@ -1,4 +1,5 @@
-//! Calls for programs in C, as a library that other crates can stand on. `exports_c` has them for the linker.
+//! Calls for programs in C, and the same with a `Result`, as a library that other crates can stand on. `exports_c` has those for
+//! C, for the linker.
 
 #![tactic(auto)]
 

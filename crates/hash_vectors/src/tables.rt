@@ -24,7 +24,12 @@ fn print_answer<T: AsSlice<u8> + Drop>(
 }
 
 // The checksum of a call's answers to each front of the pattern.
-fn lengths<T: AsSlice<u8> + Drop, F: Fn(&[u8]) -> Result<T, Refusal>>(call: F) -> u32
+fn print_lengths<T: AsSlice<u8> + Drop, F: Fn(&[u8]) -> Result<T, Refusal>>(
+    rt: &HostRuntime,
+    name: &str,
+    number: u8,
+    call: F,
+) -> io::Result<()>
     requires { F.IsAlwaysCallable call }
 {
     let bytes = pattern::<200>();
@@ -35,9 +40,12 @@ fn lengths<T: AsSlice<u8> + Drop, F: Fn(&[u8]) -> Result<T, Refusal>>(call: F) -
             Err(refusal) => sum.add_refusal(refusal.number()),
         }
     }
-    sum.value()
+    let sum = sum.value();
+    println!(rt; "{name} {number} lengths {sum}")
 }
 
+// The functions below come in pairs, since the traits of keyed functions and of commitments have no bound in common. The number
+// is asked by the constant in one pair and by the method in the other, so that both are run.
 fn print_function<K: KeyedFunction>(
     rt: &HostRuntime,
     key: &[u8; 16],
@@ -57,16 +65,17 @@ fn print_commitment<C: Commitment>(
 }
 
 fn print_function_lengths<K: KeyedFunction>(rt: &HostRuntime, key: &[u8; 16]) -> io::Result<()> {
-    let number = K::id();
     let prepared = K::prepare(key);
-    let sum = lengths(|input| K::call(&prepared, input));
-    println!(rt; "function {number} lengths {sum}")
+    print_lengths(rt, "function", K::id(), |input| K::call(&prepared, input))
 }
 
 fn print_commitment_lengths<C: Commitment>(rt: &HostRuntime, opening: &[u8; 16]) -> io::Result<()> {
-    let number = C::id();
-    let sum = lengths(|message| C::commit(opening, message));
-    println!(rt; "commitment {number} lengths {sum}")
+    print_lengths(
+        rt,
+        "commitment",
+        C::id(),
+        |message| C::commit(opening, message),
+    )
 }
 
 fn print_inputs(rt: &HostRuntime, input: &[u8]) -> io::Result<()> {

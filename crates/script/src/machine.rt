@@ -22,7 +22,7 @@ pub fn run(heap: Global, script: &[u8]) -> Result<Vec<u8>, AllocError>
     ensures deal { DealIsLine }
     ensures each { EachLineAnswered }
 {
-    // Bytes and not text: an answer may repeat bytes of the script, which need not be UTF-8.
+    // Bytes and not text: answers to later commands will repeat bytes of the script, which need not be UTF-8.
     let mut output = Vec::new(heap);
     if script.len() > LIMIT {
         // The whole script is refused under the number 0.

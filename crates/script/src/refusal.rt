@@ -2,6 +2,7 @@ ghost use Rattle.std.specs.Prelude.{◌≡◌, Some, Err};
 ghost use Rattle.script.specs.Answers.{number_of, words_of};
 ghost use Rattle.script.specs.declared.refusal.Refusal.TheVariants.{Sharing};
 
+use std::error::Error;
 use std::fmt;
 
 // Why a line, or a whole script, was refused.
@@ -15,6 +16,7 @@ pub(crate) enum Refusal {
 }
 
 impl Refusal {
+    // A method and no From: its name says what the number is.
     pub(crate) fn number(self) -> u8
         ensures { result ≡ number_of self }
     {
@@ -34,6 +36,7 @@ impl From<sharing::Refusal> for Refusal {
     }
 }
 
+// By hand, as in each crate for its own enum: a derive would state no text.
 impl fmt::Display for Refusal {
     ghost output = { λ refusal. Some (words_of (Err refusal)) };
 
@@ -42,3 +45,5 @@ impl fmt::Display for Refusal {
         write!(f, "refused {number}")
     }
 }
+
+impl Error for Refusal {}

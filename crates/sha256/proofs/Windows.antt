@@ -1,9 +1,9 @@
 -- The schedule, sixteen words at a time. Assumes nothing.
-use Rattle.std.proofs.Common.{◌≡◌, ℕ, zero, suc, ◌+◌, ◌-◌, ◌≤◌, List, ◌++◌, map, length, get_or, take, drop, sym, refl, ap, ◌∙◌, suc-add, zero-add, arith}
+use Rattle.std.proofs.Common.{◌≡◌, ℕ, zero, suc, ◌+◌, ◌-◌, ◌≤◌, List, ◌++◌, map, length, get_or, slice_index_or, slice_set, ◌%◌, take, drop, sym, refl, ap, ◌∙◌, subst, suc-add, zero-add, arith}
 use Rattle.std.specs.List.{range_with_len}
 use Rattle.std.proofs.lemmas.List.{append_assoc, length-append, length-drop, get_or-append_right, take-append-drop, take_all, take_at, take-take}
 use Rattle.std.proofs.lemmas.List.FromFn.{fill_by_all}
-use Rattle.sha256.specs.Rounds.{with_next, extended, schedule}
+use Rattle.sha256.specs.Rounds.{next_word, with_next, extended, schedule}
 use Rattle.sha256.specs.Inner.{next_window}
 
 next_length : (ws : List ℕ) → length (with_next ws) ≡ length ws + 1
@@ -85,3 +85,29 @@ schedule_windows ws h =
     window_first 32 ws h
     ∙ ap (λ x. ws ++ x)
     (window_first 16 (next_window ws) h1 ∙ ap (λ x. next_window ws ++ x) (with_window (next_window (next_window ws)) h2))
+
+-- ---- sixteen words that move on in their places
+
+-- the word that comes to a place
+abbrev pub next_at : List ℕ → ℕ → ℕ
+next_at ws i = next_word (slice_index_or ws ((i + 14) % 16) 0) (slice_index_or ws ((i + 9) % 16) 0) (slice_index_or ws ((i + 1) % 16) 0) (slice_index_or ws i 0)
+
+-- after the first places
+unfoldable pub turned : ℕ → List ℕ → List ℕ
+turned zero ws = ws
+turned (suc i) ws =
+    let us = turned i ws in
+    slice_set us i (next_at us i)
+
+pub turned_more : (i v : ℕ) (us ws : List ℕ) → us ≡ turned i ws → v ≡ next_at us i → slice_set us i v ≡ turned (i + 1) ws
+unfolding turned
+turned_more i v us ws h w =
+    let more : suc i ≡ i + 1 = omega arith in
+    ap (slice_set us i) w ∙ ap (λ xs. slice_set xs i (next_at xs i)) h ∙ ap (λ k. turned k ws) more
+
+all_written : (ws : List ℕ) → turned 16 (written ws) ≡ next_window (written ws)
+unfolding turned next_window extended with_next written
+all_written ws = refl
+
+pub all_turned : (ws : List ℕ) → length ws ≡ 16 → turned 16 ws ≡ next_window ws
+all_turned ws h = subst (λ us. turned 16 us ≡ next_window us) (sym (written_is ws h)) (all_written ws)

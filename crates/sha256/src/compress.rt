@@ -28,8 +28,7 @@ pub(crate) fn compress(hash: &mut [u32; 8], block: &[u8; 64])
 {
     let mut w = block_words(block);
     let mut s = Working::from(*hash);
-    // Without the test the rounds would be called twice, before the loop and in it: no plainer, and slower, at 0.81 of OpenSSL's
-    // speed against 0.84, since they are not inlined then.
+    // Without the test the rounds would be called twice, before the loop and in it, which is no plainer.
     for (j, k) in round_constants().iter().enumerate() {
         s.sixteen_rounds(k, &w);
         if j < 3 {

@@ -7,7 +7,8 @@ use crate::constants::initial;
 use crate::hash::digest;
 use crate::hasher::Hasher;
 
-/// A key prepared for HMAC-SHA-256: the hash after the key's block under each of the two pads.
+/// A key prepared for HMAC-SHA-256: the hash after the key's block under each of the two pads. It is secret, so it is not
+/// printed, and not compared byte by byte.
 #[derive(Clone, Copy)]
 pub struct HmacKey {
     inner: [u32; 8],

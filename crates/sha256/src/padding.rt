@@ -10,7 +10,7 @@ pub(crate) fn one_and_zeros() -> [u8; 64]
     bytes
 }
 
-// How many zero bytes follow the one bit after `count` bytes.
+// How many zero bytes follow the one bit after `count` bytes. It is cast, since there is no From from u64 to usize.
 pub(crate) fn zeros_after(count: u64) -> usize
     ensures { result ≡ zeros_after count }
 {

@@ -1,4 +1,4 @@
--- The number of each refusal. Assumes nothing.
+-- The number and the text of each refusal. Assumes nothing.
 use Rattle.std.specs.Prelude.{ℕ, List, ◌++◌, codes, decimal}
 use Rattle.sharing.specs.declared.refusal.Refusal.{Refusal}
 use Rattle.sharing.specs.declared.refusal.Refusal.TheVariants.{Parameters, Rank, Mask, Group, Quorum}

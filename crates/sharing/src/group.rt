@@ -2,7 +2,9 @@ ghost use Rattle.std.specs.Prelude.{◌≡◌, ◌≤◌};
 ghost use Rattle.sharing.specs.Masks.{member, is_within, is_group_of};
 ghost use Rattle.sharing.specs.Split.{first_common};
 
-// Whether `place` is in the group, a mask as the public calls take it.
+// Groups are bytes here, masks as the public calls take them: a type of their own would be wrapped at each of these calls.
+
+// Whether `place` is in the group.
 #[tactic(auto, using(crate::proofs::Members::past_byte))]
 pub(crate) fn is_member(place: u8, group: u8) -> bool
     ensures { result ≡ member place group }

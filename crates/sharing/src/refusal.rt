@@ -20,6 +20,7 @@ pub enum Refusal {
 }
 
 impl Refusal {
+    // A method and no From: its name says what the number is.
     /// The number under which the refusal is known.
     pub fn number(self) -> u8
         ensures { result ≡ number_of self }
@@ -34,6 +35,7 @@ impl Refusal {
     }
 }
 
+// By hand, as in each crate for its own enum: a derive would state no text.
 impl fmt::Display for Refusal {
     ghost output = { λ refusal. Some (text_of refusal) };
 

@@ -12,7 +12,7 @@ use crate::pascal::choose_of;
 use crate::refusal::Refusal;
 
 /// How a key is shared among `n` units so that any `t` of them have all of it.
-#[derive(Clone, Copy)]
+#[derive(Clone, Copy, Debug, PartialEq, Eq)]
 pub struct Scheme {
     n: u8,
     t: u8,

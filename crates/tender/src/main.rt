@@ -13,7 +13,8 @@ fn main(rt: HostRuntime) -> io::Result<()> {
     rt.stdout().write_all(&output)
 }
 
-// The whole script, or one byte past the limit, which is enough to tell that it is too long.
+// The whole script, or one byte past the limit, which is enough to tell that it is too long. The limit is cast, since there is no
+// From from usize to u64.
 fn read_script<R: Read + Drop>(heap: Global, source: R) -> io::Result<Vec<u8>> {
     let most = script::LIMIT as u64 + 1;
     let mut input = Vec::new(heap);

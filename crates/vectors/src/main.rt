@@ -45,7 +45,7 @@ fn masks_and_ranks(scheme: &Scheme) -> u32 {
 fn units(scheme: &Scheme) -> u32 {
     over_pairs(|sum, place, rank| {
         sum.add(u32::from(scheme.has_rank(place, rank)));
-        // What is printed fixes the number that stands for none.
+        // What is printed fixes the number that stands for none. There is no From from usize to u32.
         let at = scheme.share_at(place, rank);
         sum.add(at.map_or(1_000_000, |at| (at & 0xffff) as u32));
     })

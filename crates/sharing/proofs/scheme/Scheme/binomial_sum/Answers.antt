@@ -9,6 +9,7 @@ use Rattle.sharing.proofs.Inclusive.{YieldsList-from_inclusive}
 use Rattle.sharing.proofs.Ranks.{pairs, pair_low, rank_is_sum, sum_few}
 use Rattle.sharing.proofs.scheme.Scheme.binomial_sum.Goals as goal
 
+-- One chain stands in three answers: without a loop the type of its steps has no name to state a lemma by.
 pub sum-requires-clause-can : goal.sum-requires-clause-can
 unfolding bits_of
 sum-requires-clause-can c = (
