@@ -62,8 +62,8 @@ impl Working {
         }
     }
 
-    // Sixteen rounds written out, so that no working variable is moved: this runs at 0.84 of OpenSSL's speed, and a fold over
-    // both arrays ran at 0.63, below the bar of 0.8.
+    // Sixteen rounds written out, so that no working variable is moved: a fold over both arrays ran at 0.63 of OpenSSL's speed,
+    // below the bar of 0.8 that this meets.
     pub(crate) fn sixteen_rounds(&mut self, k: &[u32; 16], w: &[u32; 16])
         ensures { self.new ≡ rounds self.old k.now w.now }
     {
