@@ -74,3 +74,36 @@ fn main(rt: HostRuntime) -> io::Result<()> {
     }
     Ok(())
 }
+
+#[cfg(test)]
+mod tests {
+    use super::*;
+    use std::test::Fail;
+
+    // A contract of Display says what is written where it succeeds, and not that it does.
+    #[test]
+    fn refusals_are_written(rt: HostRuntime) -> Result<(), Fail> {
+        let heap = rt.alloc();
+        assert_eq!(rt;
+            format!(in heap; "{}", Refusal::Parameters)?.as_str(),
+            "refused 11"
+        );
+        assert_eq!(rt;
+            format!(in heap; "{}", Refusal::Rank)?.as_str(),
+            "refused 71"
+        );
+        assert_eq!(rt;
+            format!(in heap; "{}", Refusal::Mask)?.as_str(),
+            "refused 72"
+        );
+        assert_eq!(rt;
+            format!(in heap; "{}", Refusal::Group)?.as_str(),
+            "refused 73"
+        );
+        assert_eq!(rt;
+            format!(in heap; "{}", Refusal::Quorum)?.as_str(),
+            "refused 74"
+        );
+        Ok(())
+    }
+}
