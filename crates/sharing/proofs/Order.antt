@@ -1,15 +1,16 @@
 -- The share masks in their order. Assumes nothing.
-use Rattle.std.proofs.Common.{◌≡◌, ℕ, ◌+◌, ◌<◌, ◌≤◌, Bool, true, false, ◌&&◌, eqb, leb, List, length, get_or, set, take, replicate, filter, length-set, refl, ◌∙◌, ⊎_elim, arith}
+use Rattle.std.proofs.Common.{◌≡◌, ℕ, ◌+◌, ◌-◌, ◌^◌, ◌<◌, ◌≤◌, Bool, true, false, ◌&&◌, ◌==◌, eqb, leb, List, length, get_or, set, take, replicate, filter, length-set, refl, ◌∙◌, ⊎_elim, arith}
 use lib.Count.{ones, ones_in}
-use Rattle.std.specs.List.{range_with_len, enumerate_from}
+use Rattle.std.specs.List.{range_with_len, enumerate_from, list_all}
 use Rattle.std.specs.Str.{bytes_eq}
 use Rattle.std.proofs.lemmas.Bool.{and_parts, and_right, cases_lt, eqb-true, leb-true}
 use Rattle.std.proofs.lemmas.List.{get_or_past, get_or-replicate}
+use Rattle.std.proofs.lemmas.List.Sums.{AllPass-from_list_all}
 use Rattle.std.proofs.lemmas.Grind.{common_steps}
 use Rattle.std.proofs.lemmas.List.FromFn.{length-enumerate_from, get_or-enumerate_from}
 use Rattle.std.proofs.lemmas.Slice.Eq.{bytes_eq-Decides}
 use Rattle.sharing.specs.Choose.{choose}
-use Rattle.sharing.specs.Masks.{lawful, is_share_mask, share_masks, shares}
+use Rattle.sharing.specs.Masks.{lawful, share_masks, shares}
 use Rattle.sharing.specs.Groups.{unit_has}
 use Rattle.sharing.specs.Laws.{SharesCounted}
 use Rattle.sharing.proofs.Finite.{all_below}
@@ -35,13 +36,21 @@ pub shares_counted : SharesCounted
 unfolding SharesCounted
 shares_counted = length_masks
 
-masks_of_bytes : ℕ → ℕ → Bool
-masks_of_bytes n t = bytes_eq (filter (is_share_mask n t) (range_with_len 0 256)) (share_masks n t)
+masks_of_range : ℕ → ℕ → Bool
+masks_of_range n t = bytes_eq (filter (λ m. ones m == n - t + 1) (range_with_len 0 (2 ^ n))) (share_masks n t)
 
--- no larger number of eight bits is a share mask
-pub from_bytes : (n t : ℕ) → lawful n t ≡ true → filter (is_share_mask n t) (range_with_len 0 256) ≡ share_masks n t
-unfolding masks_of_bytes every_scheme all_below share_masks ones ones_in
-from_bytes n t h = (bytes_eq-Decides _ _).0 (scheme_at masks_of_bytes refl n t h)
+-- below 2 ^ n the number of ones tells
+pub from_range : (n t : ℕ) → lawful n t ≡ true → filter (λ m. ones m == n - t + 1) (range_with_len 0 (2 ^ n)) ≡ share_masks n t
+unfolding masks_of_range every_scheme all_below share_masks ones ones_in
+from_range n t h = (bytes_eq-Decides _ _).0 (scheme_at masks_of_range refl n t h)
+
+bytes_alone : ℕ → ℕ → Bool
+bytes_alone n t = list_all (λ m. leb m 255) (share_masks n t)
+
+-- a share mask is a byte
+pub mask_is_byte : (n t rank : ℕ) → lawful n t ≡ true → rank < length (share_masks n t) → get_or (share_masks n t) rank 0 ≤ 255
+unfolding bytes_alone every_scheme all_below share_masks ones ones_in
+mask_is_byte n t rank h low = leb-true _ _ (AllPass-from_list_all (λ m. leb m 255) (share_masks n t) (scheme_at bytes_alone refl n t h) rank 0 low)
 
 pub unit_past : (n t p rank : ℕ) → lawful n t ≡ true → shares n t ≤ rank → unit_has n t p rank ≡ false
 unit_past n t p rank h past = rw (get_or_past (share_masks n t) rank 0 (omega (arith, length_masks n t h))) (and_right (leb 1 p) false refl)

@@ -133,7 +133,7 @@ impl Scheme {
     {
         (0..8)
             .filter(|bit| is_member(*bit + 1, mask))
-            .zip(1..=8)
+            .zip(1..9)
             .map(|(bit, ones)| choose_of(bit, ones))
             .sum()
     }
@@ -149,18 +149,19 @@ impl Scheme {
     }
 }
 
-// The share masks in increasing order, and zeros after them. With at most 8 units a mask is a byte, so that all bytes are
-// looked at. There is no scheme yet, so n and t come by themselves.
+// The share masks in increasing order, and zeros after them: of the masks within n, which are cast back, since there is no From from
+// u16 to u8. There is no scheme yet, so n and t come by themselves.
 fn share_masks(n: u8, t: u8) -> [u8; 70]
     requires { lawful n t ≡ true }
     ensures { (rank : ℕ) → slice_index result rank ≡ mask_of n t rank }
 {
+    let size = u32::from(n - t + 1);
     let mut masks = [0; 70];
-    for (rank, mask) in (0..=u8::MAX)
-        .filter(|mask| is_group_of(*mask, n, n - t + 1))
+    for (rank, mask) in (0..1u16 << n)
+        .filter(|mask| mask.count_ones() == size)
         .enumerate()
     {
-        masks[rank] = mask;
+        masks[rank] = mask as u8;
     }
     masks
 }

@@ -1,12 +1,13 @@
-use Rattle.std.proofs.Common.{◌≡◌, ◌<◌, length, get_or, subst, rules, tests, arith}
+use Rattle.std.proofs.Common.{◌≡◌, ◌+◌, ◌-◌, ◌*◌, ◌%◌, ◌^◌, ◌<◌, ◌≤◌, ◌==◌, count_ones, length, get_or, refl, subst, rules, tests, arith}
+use Rattle.std.proofs.lemmas.Nat.{one_shl}
 use Rattle.std.specs.List.{enumerate_from}
-use Rattle.std.proofs.lemmas.Iterator.{YieldsList}
+use Rattle.std.proofs.lemmas.Iterator.{YieldsList, YieldsList-from_range}
 use Rattle.std.proofs.lemmas.Iterator.Consumers.{YieldsList-at, YieldsList-from_filter, YieldsList-from_enumerate, YieldsList-turn, YieldsList-end}
 use Rattle.std.proofs.lemmas.List.{length_push}
 use Rattle.std.proofs.lemmas.List.FromFn.{length-enumerate_from}
-use Rattle.sharing.specs.Masks.{is_share_mask, share_masks}
-use Rattle.sharing.proofs.Inclusive.{YieldsList-from_inclusive}
-use Rattle.sharing.proofs.Order.{shares_few, from_bytes, length_masks, filled_none, filled_more, filled_all, pair_at}
+use Rattle.sharing.specs.Masks.{share_masks}
+use Rattle.sharing.proofs.Schemes.{n_high}
+use Rattle.sharing.proofs.Order.{shares_few, from_range, mask_is_byte, length_masks, filled_none, filled_more, filled_all, pair_at}
 use Rattle.sharing.proofs.scheme.share_masks.Goals as goal
 use Rattle.sharing.proofs.scheme.share_masks.Given as given
 use Rattle.sharing.proofs.scheme.share_masks.Goals.{In-Some, After-into_iter-rank-iterator}
@@ -19,8 +20,10 @@ road : (c : After-into_iter-rank-iterator) → YieldsList (given.iterator-loop-r
 road c =
     let n = c.args.n in
     let t = c.args.t in
-    subst (λ ms. YieldsList (given.iterator-loop-rank).next_gives (λ p. (p.0, p.1)) c.into_iter-rank-iterator.result (enumerate_from 0 ms)) (from_bytes n t c.requires)
-    (YieldsList-at c.into_iter-rank-iterator.ensures.into_iter_gives (YieldsList-from_enumerate (YieldsList-at c.enumerate-rank-items.ensures.source (YieldsList-from_filter _ (is_share_mask n t) (YieldsList-at c.filter.ensures.source (YieldsList-from_inclusive 0 256 c.new.ensures.start (omega arith) c.new.ensures.exhausted)) c.filter.ensures.closure (λ x b q k. search (rules, tests)))) c.enumerate-rank-items.ensures.count))
+    let few = n_high n t c.requires in
+    let shift = one_shl n 16 (omega arith) in
+    subst (λ ms. YieldsList (given.iterator-loop-rank).next_gives (λ p. (p.0, p.1)) c.into_iter-rank-iterator.result (enumerate_from 0 ms)) (from_range n t c.requires)
+    (YieldsList-at c.into_iter-rank-iterator.ensures.into_iter_gives (YieldsList-from_enumerate (YieldsList-at c.enumerate-rank-items.ensures.source (YieldsList-from_filter _ (λ m. count_ones m == n - t + 1) (YieldsList-at c.filter.ensures.source (YieldsList-from_range 0 ((1 * 2 ^ n) % 2 ^ 16) (2 ^ n) refl (omega (arith, shift)))) c.filter.ensures.closure (λ x b q k. search (rules, tests)))) c.enumerate-rank-items.ensures.count))
 
 -- the next rank and its mask
 turn : (c : In-Some) → (length c.loop-rank.yielded < length (share_masks c.args.n c.args.t)) × (c.in-Some.rank ≡ length c.loop-rank.yielded) × (c.in-Some.mask ≡ get_or (share_masks c.args.n c.args.t) (length c.loop-rank.yielded) 0)
@@ -31,8 +34,17 @@ turn c =
 low : (c : In-Some) → c.in-Some.rank < 70
 low c = omega (arith, turn c, length_masks c.args.n c.args.t c.requires, shares_few c.args.n c.args.t c.requires)
 
+-- and its mask is a byte
+byte : (c : In-Some) → c.in-Some.mask ≤ 255
+byte c =
+    let t = turn c in
+    rw t.2 (mask_is_byte c.args.n c.args.t (length c.loop-rank.yielded) c.requires t.0)
+
 pub bounds-masks-rank : goal.bounds-masks-rank
 bounds-masks-rank c = low c
+
+pub overflow_cast-masks : goal.overflow_cast-masks
+overflow_cast-masks c = record { fits = omega (arith, byte c) }
 
 pub loop-rank-preserved : goal.loop-rank-preserved
 loop-rank-preserved c =

@@ -5,7 +5,6 @@ use Rattle.std.proofs.lemmas.Iterator.Adapters.{serves_from_places}
 use Rattle.sharing.specs.Choose.{choose}
 use Rattle.sharing.specs.Masks.{member, bits_of, rank_sum}
 use Rattle.sharing.specs.Laws.{RankIsSum}
-use Rattle.sharing.proofs.Inclusive.{YieldsList-from_inclusive}
 use Rattle.sharing.proofs.Ranks.{pairs, pair_low, rank_is_sum, sum_few}
 use Rattle.sharing.proofs.scheme.Scheme.binomial_sum.Goals as goal
 
@@ -15,7 +14,7 @@ unfolding bits_of
 sum-requires-clause-can c = (
   ((tt, tt, serves_from_Range (λ x q k. search rules) (λ x low high. search rules)), tt),
   serves_from_places
-      (YieldsList-at c.map.ensures.source (YieldsList-from_zip (YieldsList-at c.zip.ensures.first (YieldsList-from_filter _ (λ p. member (p + 1) c.args.mask) (YieldsList-at c.filter.ensures.source (YieldsList-from_range 0 8 8 refl refl)) c.filter.ensures.closure (λ x b q k. search (rules, tests)))) (YieldsList-at c.zip.ensures.second (YieldsList-from_inclusive 1 8 c.new.ensures.start (omega (arith, c.new.ensures.end)) c.new.ensures.exhausted))))
+      (YieldsList-at c.map.ensures.source (YieldsList-from_zip (YieldsList-at c.zip.ensures.first (YieldsList-from_filter _ (λ p. member (p + 1) c.args.mask) (YieldsList-at c.filter.ensures.source (YieldsList-from_range 0 8 8 refl refl)) c.filter.ensures.closure (λ x b q k. search (rules, tests)))) (YieldsList-at c.zip.ensures.second (YieldsList-from_range 1 9 8 refl refl))))
       (λ x q k. search rules)
       (λ p k inside at. let low = pair_low c.args.mask k p c.ranges.mask.fits inside at in search rules),
 )
@@ -25,10 +24,10 @@ unfolding rank_sum bits_of
 sum-requires-clause-fits c =
     let scheme = c.args.self.now in
     let few = sum_few scheme.n scheme.t c.args.mask scheme.allowed c.requires in
-    fits_by_from_yields_list (λ p. choose p.0 p.1) (pairs c.args.mask) c.map.result 256 (YieldsList-from_map _ (λ p. choose p.0 p.1) (YieldsList-at c.map.ensures.source (YieldsList-from_zip (YieldsList-at c.zip.ensures.first (YieldsList-from_filter _ (λ p. member (p + 1) c.args.mask) (YieldsList-at c.filter.ensures.source (YieldsList-from_range 0 8 8 refl refl)) c.filter.ensures.closure (λ x b q k. search (rules, tests)))) (YieldsList-at c.zip.ensures.second (YieldsList-from_inclusive 1 8 c.new.ensures.start (omega (arith, c.new.ensures.end)) c.new.ensures.exhausted)))) c.map.ensures.closure (λ x r q k. search rules)) (omega arith)
+    fits_by_from_yields_list (λ p. choose p.0 p.1) (pairs c.args.mask) c.map.result 256 (YieldsList-from_map _ (λ p. choose p.0 p.1) (YieldsList-at c.map.ensures.source (YieldsList-from_zip (YieldsList-at c.zip.ensures.first (YieldsList-from_filter _ (λ p. member (p + 1) c.args.mask) (YieldsList-at c.filter.ensures.source (YieldsList-from_range 0 8 8 refl refl)) c.filter.ensures.closure (λ x b q k. search (rules, tests)))) (YieldsList-at c.zip.ensures.second (YieldsList-from_range 1 9 8 refl refl)))) c.map.ensures.closure (λ x r q k. search rules)) (omega arith)
 
 pub returns : goal.returns
 unfolding RankIsSum rank_sum bits_of
 returns c =
     let scheme = c.args.self.now in
-    sum_by_from_yields_List (λ p. choose p.0 p.1) (pairs c.args.mask) c.map.result c.sum.result c.sum.ensures.ran (YieldsList-from_map _ (λ p. choose p.0 p.1) (YieldsList-at c.map.ensures.source (YieldsList-from_zip (YieldsList-at c.zip.ensures.first (YieldsList-from_filter _ (λ p. member (p + 1) c.args.mask) (YieldsList-at c.filter.ensures.source (YieldsList-from_range 0 8 8 refl refl)) c.filter.ensures.closure (λ x b q k. search (rules, tests)))) (YieldsList-at c.zip.ensures.second (YieldsList-from_inclusive 1 8 c.new.ensures.start (omega (arith, c.new.ensures.end)) c.new.ensures.exhausted)))) c.map.ensures.closure (λ x r q k. search rules)) ∙ sym (rank_is_sum scheme.n scheme.t c.args.mask scheme.allowed c.requires)
+    sum_by_from_yields_List (λ p. choose p.0 p.1) (pairs c.args.mask) c.map.result c.sum.result c.sum.ensures.ran (YieldsList-from_map _ (λ p. choose p.0 p.1) (YieldsList-at c.map.ensures.source (YieldsList-from_zip (YieldsList-at c.zip.ensures.first (YieldsList-from_filter _ (λ p. member (p + 1) c.args.mask) (YieldsList-at c.filter.ensures.source (YieldsList-from_range 0 8 8 refl refl)) c.filter.ensures.closure (λ x b q k. search (rules, tests)))) (YieldsList-at c.zip.ensures.second (YieldsList-from_range 1 9 8 refl refl)))) c.map.ensures.closure (λ x r q k. search rules)) ∙ sym (rank_is_sum scheme.n scheme.t c.args.mask scheme.allowed c.requires)
