@@ -6,6 +6,7 @@ use crate::compress::compress;
 use crate::constants::initial;
 use crate::hash::digest;
 use crate::hasher::Hasher;
+use std::array;
 
 /// A key prepared for HMAC-SHA-256: the hash after the key's block under each of the two pads. It is secret, so it is not
 /// printed, and not compared byte by byte.
@@ -68,7 +69,7 @@ fn midstate(block: &[u8; 64], pad: u8) -> [u32; 8]
     ensures { result ≡ midstate_of pad block.now }
 {
     let mut hash = initial();
-    compress(&mut hash, &block.map(|byte| byte ^ pad));
+    compress(&mut hash, &array::from_fn(|i| block[i] ^ pad));
     hash
 }
 
