@@ -8,10 +8,10 @@ use Rattle.script.specs.Laws.{DealIsLine}
 use Rattle.script.specs.declared.command.Command.TheVariants.{Deal}
 
 -- the line, byte by byte
-abbrev bytes : ℕ → ℕ → List ℕ
+abbrev pub bytes : ℕ → ℕ → List ℕ
 bytes n t = 100 ∷ 32 ∷ (48 + n) ∷ 32 ∷ (48 + t) ∷ []
 
-deal_bytes : (n t : ℕ) → n < 10 → t < 10 → codes "d " ++ (decimal n ++ (codes " " ++ decimal t)) ≡ bytes n t
+pub deal_bytes : (n t : ℕ) → n < 10 → t < 10 → codes "d " ++ (decimal n ++ (codes " " ++ decimal t)) ≡ bytes n t
 deal_bytes n t p q = rw (decimal_digit n p, decimal_digit t q) refl
 
 back : (n t : ℕ) → n < 10 → t < 10 → command_of (bytes n t) ≡ Ok (Deal n t)
