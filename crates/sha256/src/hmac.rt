@@ -64,7 +64,7 @@ fn zero_filled(bytes: &[u8]) -> [u8; 64]
     block
 }
 
-// The hash after a block under a pad.
+// The hash after a block under a pad. By the array's `map` the block alone would cost a third of what its compression does.
 fn midstate(block: &[u8; 64], pad: u8) -> [u32; 8]
     ensures { result ≡ midstate_of pad block.now }
 {

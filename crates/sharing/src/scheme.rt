@@ -126,7 +126,7 @@ impl Scheme {
         is_group_of(mask, self.n, self.n - self.t + 1)
     }
 
-    // The rank: C(p1, 1) + C(p2, 2) + .. over the mask's ones, at the bits p1 < p2 < ..
+    // The rank: C(p1, 1) + C(p2, 2) + .. over the mask's ones, at the bits p1 < p2 < .. (By 1..=8 it took two thirds longer.)
     fn binomial_sum(&self, mask: u8) -> u8
         requires { is_share_mask self.now.n self.now.t mask ≡ true }
         ensures { result ≡ rank_of self.now.n self.now.t mask }
@@ -149,8 +149,8 @@ impl Scheme {
     }
 }
 
-// The share masks in increasing order, and zeros after them: of the masks within n, which are cast back, since there is no From from
-// u16 to u8. There is no scheme yet, so n and t come by themselves.
+// The share masks in increasing order, and zeros after them. Only masks within n are looked at, as u16, since 2^8 is past a
+// byte; those that are kept are cast back, for which there is no From. There is no scheme yet, so n and t come by themselves.
 fn share_masks(n: u8, t: u8) -> [u8; 70]
     requires { lawful n t ≡ true }
     ensures { (rank : ℕ) → slice_index result rank ≡ mask_of n t rank }
